@@ -1,0 +1,92 @@
+// The frame request.
+use crate::counts::Bits;
+use crate::counts::Pulses;
+use crate::format::mr1_not_modelled;
+use crate::format::mr2_not_modelled;
+use crate::levels::frame_bits;
+use crate::levels::frame_length;
+use crate::levels::level_of;
+ghost use mathlib.Core.Path.{_≡_};
+ghost use Prim.Native.Nat.{_≤_};
+ghost use lib.ListN.{length};
+ghost use Rattle.frame.specs.Digits.{bit};
+ghost use Rattle.frame.specs.Request.{lengthAsked, levelsAsked, firstRefusal, answerOf, requestOf, overFront, spaceAfter};
+
+// What a frame request answers: the number of document 01's table, and the pulses written.
+#[repr(C)]
+pub struct FrameAnswer {
+    pub number: u8,
+    pub length: Pulses,
+}
+
+const ACCEPTED: u8 = 0;
+
+const NOT_MODELLED: u8 = 5;
+
+const SPACE_SHORT: u8 = 8;
+
+// "Checked in this order": the number is that of the first row that applies.
+fn first_refusal(not_modelled: bool, space_short: bool) -> u8
+    ensures { λ r. ⌜ r ≡ firstRefusal «not_modelled» «space_short» ⌝ }
+{
+    if not_modelled {
+        return NOT_MODELLED;
+    }
+    if space_short {
+        return SPACE_SHORT;
+    }
+    ACCEPTED
+}
+
+// The number and the length, "0 if refused".
+fn answer_of(number: u8, frame: Pulses) -> FrameAnswer
+    ensures { λ r. ⌜ r ≡ answerOf number frame ⌝ }
+{
+    if number == ACCEPTED {
+        return FrameAnswer {
+            number,
+            length: frame,
+        };
+    }
+    FrameAnswer {
+        number,
+        length: Pulses(0),
+    }
+}
+
+// A level as a byte: 1 is high.
+fn level_byte(level: bool) -> u8
+    ensures { λ r. ⌜ r ≡ bit level ⌝ }
+{
+    if level { 1 } else { 0 }
+}
+
+// Writes so many of a frame's levels over the front of the space: all of them or, refused, none.
+// It asks that they are there to write and that the space holds them, which the answer sees to.
+fn write_levels(mr1: u8, mr2: u8, byte: u8, pulses: Pulses, space: &mut [u8])
+    requires { ⌜ (pulses .0 ≤ lengthAsked mr1 mr2 .0) × (pulses .0 ≤ length (now space)) ⌝ }
+    ensures { λ _. ⌜ now (space .exit) ≡ overFront (levelsAsked mr1 mr2 byte) (pulses .0) (now (space .entry)) ⌝ }
+{
+    let frame = frame_bits(mr1, byte);
+    let end = pulses.0;
+    let mut i = 0;
+    while i < end {
+        let at = i as usize;
+        space[at] = level_byte(level_of(frame, Bits(i / 16)));
+        i += 1;
+    }
+}
+
+// "A separate request writes a frame's levels, one byte 0 or 1 per 16X pulse, at most 192, from
+// MR1, MR2 and a byte; space past it stays. It answers the number and the length, 0 if refused."
+pub fn request_frame(mr1: u8, mr2: u8, byte: u8, space: &mut [u8]) -> FrameAnswer
+    ensures { λ r. ⌜ (r ≡ requestOf mr1 mr2 (length (now (space .entry)))) × (now (space .exit) ≡ spaceAfter mr1 mr2 byte (now (space .entry))) ⌝ }
+{
+    let not_modelled = mr1_not_modelled(mr1) | mr2_not_modelled(mr2);
+    let frame = frame_length(mr1, mr2, true);
+    let end = frame.0 as usize;
+    let space_short = space.len() < end;
+    let answer = answer_of(first_refusal(not_modelled, space_short), frame);
+    write_levels(mr1, mr2, byte, answer.length, space);
+    answer
+}
