@@ -9,7 +9,7 @@ struct Stretch {
     pulses: usize,
 }
 
-/// "MR1 bit 7 set or bits 4-3 = 11; MR2 bits 7-6 not 00, or bit 5 set"
+/// "Not modelled (5): MR1 bit 7 set or bits 4-3 = 11; MR2 bits 7-6 not 00, or bit 5 set"
 fn modelled(mr1: u8, mr2: u8) -> bool {
     mr1 & 0b1000_0000 == 0 && mr1 & 0b0001_1000 != 0b0001_1000 && mr2 & 0b1110_0000 == 0
 }
@@ -60,7 +60,8 @@ fn request(mr1: u8, mr2: u8, byte: u8, space: &mut [u8]) -> (u8, u8) {
     (0, levels.len() as u8)
 }
 
-const SPACE: usize = 192;
+/// Longer than any frame.
+const SPACE: usize = 200;
 
 fn add(sum: u32, x: u8) -> u32 {
     (sum * 31 + u32::from(x)) % 65521
@@ -78,7 +79,7 @@ fn run_mr1(mr1: u8) {
     for mr2 in 0..=255 {
         let (number, length) = request(mr1, mr2, 165, &mut [0; SPACE]);
         if number != 0 {
-            sum = run(sum, mr1, mr2, 165, SPACE);
+            sum = run(run(sum, mr1, mr2, 165, SPACE), mr1, mr2, 165, 0);
             continue;
         }
         accepted += 1;

@@ -19,12 +19,12 @@ unfoldable pub valueOf : List Bool → ℕ
 valueOf [] = 0
 valueOf (b ∷ bs) = bit b + 2 * valueOf bs
 
--- whether an odd number of these are high
-unfoldable pub oddHighs : List Bool → Bool
-oddHighs [] = false
-oddHighs (true ∷ bs) = not (oddHighs bs)
-oddHighs (false ∷ bs) = oddHighs bs
+-- whether an odd number of these are 1
+unfoldable pub oddOnes : List Bool → Bool
+oddOnes [] = false
+oddOnes (true ∷ bs) = not (oddOnes bs)
+oddOnes (false ∷ bs) = oddOnes bs
 
--- "a character cut to its data bits"
+-- a character cut to its data bits: "255 with 5 bits: data 31"
 abbrev pub cutOf : ℕ → ℕ → ℕ
 cutOf w x = x % 2 ^ w

@@ -1,4 +1,4 @@
--- What a reader must believe of a frame: one file a topic, under the names of src/.
+-- What a reader must believe of a frame: a file a topic, under the names of src/, over two that all of them use, `Pick` and `Digits`.
 pub mod Pick
 pub mod Digits
 pub mod Format

@@ -5,21 +5,22 @@ use mathlib.Core.List.{List, [], _∷_}
 use lib.Dec.{eqb, ltb}
 use Rattle.frame.specs.declared.format.Format.{Format}
 use Rattle.frame.specs.Pick.{pick}
-use Rattle.frame.specs.Digits.{bitsOf, oddHighs}
+use Rattle.frame.specs.Digits.{bitsOf, oddOnes}
 
 -- the data bits in use, lowest first
 abbrev pub dataBits : Format → ℕ → List Bool
 dataBits f x = bitsOf (f .width .0) x
 
--- "parity 00 with, 01 forced, 10 none": any other number has none either
+-- "parity 00 with, 01 forced, 10 none": 11, which is not modelled, has none either
 abbrev pub hasParityOf : Format → Bool
 hasParityOf f = ltb (f .parity) 2
 
--- With parity: the number of highs among the data bits in use and this bit is even, or odd where odd is chosen. Forced: low, or high.
+-- With: the number of ones among the data bits in use and this bit is even, or odd where odd is chosen. Forced: low, or high.
+-- Where there is none, `hasParityOf` says so; the answer is then that of forced.
 unfoldable pub parityBitOf : Format → ℕ → Bool
 parityBitOf f x =
     pick (eqb (f .parity) 0)
-    (pick (f .odd) (not (oddHighs (dataBits f x))) (oddHighs (dataBits f x)))
+    (pick (f .odd) (not (oddOnes (dataBits f x))) (oddOnes (dataBits f x)))
     (f .odd)
 
 -- "parity if any"

@@ -4,7 +4,8 @@
 #[repr(C)]
 pub struct Ticks(pub u64);
 
-// Pulses of a channel's clock, 16X or 1X: a frame's length, a stop length in sixteenths.
+// Pulses of a side's clock, which are 16X pulses, or with a 1X clock one a bit: a frame's length, a
+// stop length in sixteenths.
 #[repr(C)]
 pub struct Pulses(pub u8);
 

@@ -9,7 +9,7 @@ ghost use Rattle.frame.specs.Format.{mr1NotModelled, mr2NotModelled, for
 pub struct Format {
     // data bits
     pub width: Bits,
-    // 0 with parity, 1 forced, 2 none
+    // 0 with parity, 1 forced, 2 none; 3 is not modelled, and has no parity bit
     pub parity: u8,
     // odd, or forced high
     pub odd: bool,

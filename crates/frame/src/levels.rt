@@ -29,12 +29,12 @@ pub fn frame_bits(mr1: u8, byte: u8) -> FrameBits
     // the weight of the first place past the start bit and the data: high, as all above it are,
     // unless it is a low parity bit
     let past: u32 = 2 << w;
-    let high = 65536 - past + 2 * data;
+    let register = 65536 - past + 2 * data;
     let parity_low = has_parity(format) & !parity_bit(format, byte);
     if parity_low {
-        return FrameBits((high - past) as u16);
+        return FrameBits((register - past) as u16);
     }
-    FrameBits(high as u16)
+    FrameBits(register as u16)
 }
 
 // Bit n of a register, the lowest first: n lies within it.
@@ -67,7 +67,7 @@ fn bits_before_stop(mr1: u8) -> Bits
     Bits(format.width.0 + 1)
 }
 
-// The pulses of a frame, from its start bit's first to its stop's last.
+// "frame length is the format's sum": the pulses from the start bit's first to the stop's last.
 pub fn frame_length(mr1: u8, mr2: u8, sixteen: bool) -> Pulses
     ensures { λ r. ⌜ r ≡ frameLengthOf sixteen (formatOf mr1) (stopCodeOf mr2) ⌝ }
 {

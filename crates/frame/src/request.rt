@@ -10,7 +10,7 @@ ghost use mathlib.Core.Path.{_≡_};
 ghost use Prim.Native.Nat.{_≤_};
 ghost use lib.ListN.{length};
 ghost use Rattle.frame.specs.Digits.{bit};
-ghost use Rattle.frame.specs.Request.{lengthAsked, levelsAsked, firstRefusal, answerOf, requestOf, overFront, spaceAfter};
+ghost use Rattle.frame.specs.Request.{firstRefusal, answerOf, requestOf, openLevels, overFront, spaceAfter};
 
 // What a frame request answers: the number of document 01's table, and the pulses written.
 #[repr(C)]
@@ -38,15 +38,12 @@ fn first_refusal(not_modelled: bool, space_short: bool) -> u8
     ACCEPTED
 }
 
-// The number and the length, "0 if refused".
-fn answer_of(number: u8, frame: Pulses) -> FrameAnswer
-    ensures { λ r. ⌜ r ≡ answerOf number frame ⌝ }
+// "It answers the number and the length, 0 if refused."
+fn answer_of(number: u8, length: Pulses) -> FrameAnswer
+    ensures { λ r. ⌜ r ≡ answerOf number length ⌝ }
 {
     if number == ACCEPTED {
-        return FrameAnswer {
-            number,
-            length: frame,
-        };
+        return FrameAnswer { number, length };
     }
     FrameAnswer {
         number,
@@ -61,32 +58,33 @@ fn level_byte(level: bool) -> u8
     if level { 1 } else { 0 }
 }
 
-// Writes so many of a frame's levels over the front of the space: all of them or, refused, none.
-// It asks that they are there to write and that the space holds them, which the answer sees to.
-fn write_levels(mr1: u8, mr2: u8, byte: u8, pulses: Pulses, space: &mut [u8])
-    requires { ⌜ (pulses .0 ≤ lengthAsked mr1 mr2 .0) × (pulses .0 ≤ length (now space)) ⌝ }
-    ensures { λ _. ⌜ now (space .exit) ≡ overFront (levelsAsked mr1 mr2 byte) (pulses .0) (now (space .entry)) ⌝ }
+// Writes the levels of so many pulses over the front of the space: the bits of a frame, and high
+// past them. The space must hold them, which the answer to a request sees to.
+fn write_levels(mr1: u8, byte: u8, pulses: Pulses, space: &mut [u8])
+    requires { ⌜ pulses .0 ≤ length (now space) ⌝ }
+    ensures { λ _. ⌜ now (space .exit) ≡ overFront (openLevels mr1 byte (pulses .0)) (pulses .0) (now (space .entry)) ⌝ }
 {
-    let frame = frame_bits(mr1, byte);
+    let bits = frame_bits(mr1, byte);
     let end = pulses.0;
     let mut i = 0;
     while i < end {
         let at = i as usize;
-        space[at] = level_byte(level_of(frame, Bits(i / 16)));
+        space[at] = level_byte(level_of(bits, Bits(i / 16)));
         i += 1;
     }
 }
 
 // "A separate request writes a frame's levels, one byte 0 or 1 per 16X pulse, at most 192, from
-// MR1, MR2 and a byte; space past it stays. It answers the number and the length, 0 if refused."
+// MR1, MR2 and a byte; space past it stays."
 pub fn request_frame(mr1: u8, mr2: u8, byte: u8, space: &mut [u8]) -> FrameAnswer
-    ensures { λ r. ⌜ (r ≡ requestOf mr1 mr2 (length (now (space .entry)))) × (now (space .exit) ≡ spaceAfter mr1 mr2 byte (now (space .entry))) ⌝ }
+    ensures answer { λ r. ⌜ r ≡ requestOf mr1 mr2 (length (now (space .entry))) ⌝ }
+    ensures space { λ _. ⌜ now (space .exit) ≡ spaceAfter mr1 mr2 byte (now (space .entry)) ⌝ }
 {
     let not_modelled = mr1_not_modelled(mr1) | mr2_not_modelled(mr2);
-    let frame = frame_length(mr1, mr2, true);
-    let end = frame.0 as usize;
+    let length = frame_length(mr1, mr2, true);
+    let end = length.0 as usize;
     let space_short = space.len() < end;
-    let answer = answer_of(first_refusal(not_modelled, space_short), frame);
-    write_levels(mr1, mr2, byte, answer.length, space);
+    let answer = answer_of(first_refusal(not_modelled, space_short), length);
+    write_levels(mr1, byte, answer.length, space);
     answer
 }

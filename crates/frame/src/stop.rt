@@ -2,7 +2,7 @@
 use crate::counts::Bits;
 use crate::counts::Pulses;
 ghost use mathlib.Core.Path.{_≡_};
-ghost use Rattle.frame.specs.Stop.{stopLengthOf, stopBitsOf};
+ghost use Rattle.frame.specs.Stop.{rowOf, stopLengthOf, stopBitsOf};
 
 // Stop codes 0 to 15 for 5 data bits, then for 6 to 8.
 const SIXTEENTHS: [u8; 32] = [
@@ -40,15 +40,22 @@ const SIXTEENTHS: [u8; 32] = [
     32,
 ];
 
+// Where the codes of a width begin in the table.
+fn row_of(width: Bits) -> usize
+    ensures { λ r. ⌜ r ≡ rowOf width ⌝ }
+{
+    if width.0 == 5 {
+        return 0;
+    }
+    16
+}
+
 // "Stop length in sixteenths: for 5 data bits 17+c; for 6 to 8, 9+c for c up to 7, else 17+c."
 pub fn stop_length(width: Bits, code: u8) -> Pulses
     ensures { λ r. ⌜ r ≡ stopLengthOf width code ⌝ }
 {
-    let c = (code % 16) as usize;
-    if width.0 == 5 {
-        return Pulses(SIXTEENTHS[c]);
-    }
-    Pulses(SIXTEENTHS[c + 16])
+    let at = row_of(width) + (code % 16) as usize;
+    Pulses(SIXTEENTHS[at])
 }
 
 // "With a 1X clock: one bit, two if bit 3 is set."

@@ -87,86 +87,75 @@ fn add_all(sum: u32, space: &[u8]) -> u32 {
     s
 }
 
-// One request with the whole space.
-fn run_byte(sum: u32, mr1: u8, mr2: u8, byte: u8) -> u32 {
-    let mut space = [7u8; 192];
-    let answer = request_frame(mr1, mr2, byte, &mut space);
-    add_all(add(add(sum, answer.number), answer.length.0), &space)
+// The sum after one request with the first so many bytes of the space.
+fn run_part(sum: u32, mr1: u8, mr2: u8, byte: u8, bytes: usize, space: &mut [u8]) -> u32 {
+    if space.len() < bytes {
+        return sum;
+    }
+    let answer = request_frame(mr1, mr2, byte, &mut space[..bytes]);
+    add_all(add(add(sum, answer.number), answer.length.0), space)
+}
+
+// The same with a space of sevens, longer than any frame.
+fn run(sum: u32, mr1: u8, mr2: u8, byte: u8, bytes: usize) -> u32 {
+    let mut space = [7u8; 200];
+    run_part(sum, mr1, mr2, byte, bytes, &mut space)
 }
 
 fn run_bytes(sum: u32, mr1: u8, mr2: u8) -> u32 {
     let mut s = sum;
-    let mut byte: u16 = 0;
-    while byte < 256 {
-        s = run_byte(s, mr1, mr2, (byte % 256) as u8);
-        byte += 1;
+    for byte in 0..=255 {
+        s = run(s, mr1, mr2, byte, 200);
     }
     s
 }
 
-// One request with so many bytes of the space.
-fn run_part(sum: u32, mr1: u8, mr2: u8, bytes: usize, space: &mut [u8]) -> u32 {
-    if space.len() < bytes {
-        return sum;
-    }
-    let answer = request_frame(mr1, mr2, 165, &mut space[..bytes]);
-    add_all(add(add(sum, answer.number), answer.length.0), space)
-}
-
-fn run_space(sum: u32, mr1: u8, mr2: u8, bytes: usize) -> u32 {
-    let mut space = [7u8; 192];
-    run_part(sum, mr1, mr2, bytes, &mut space)
-}
-
-struct Run {
+struct Total {
     sum: u32,
     accepted: u64,
 }
 
-// A setting that is accepted: every byte, then a space a byte too short and one that just holds the
-// frame. One that is refused: once.
-fn run_setting(run: Run, mr1: u8, mr2: u8) -> Run {
-    let mut space = [7u8; 192];
+// A setting that is refused: with a space that would hold any frame, and with none. One that is
+// accepted: every byte, then a space that is a byte too short and one that just holds the frame.
+fn run_setting(before: Total, mr1: u8, mr2: u8) -> Total {
+    let mut space = [7u8; 200];
     let answer = request_frame(mr1, mr2, 165, &mut space);
+    let sum = before.sum;
     if answer.number != 0 {
-        return Run {
-            sum: run_byte(run.sum, mr1, mr2, 165),
-            accepted: run.accepted,
+        return Total {
+            sum: run(run(sum, mr1, mr2, 165, 200), mr1, mr2, 165, 0),
+            accepted: before.accepted,
         };
     }
     let length = answer.length.0 as usize;
-    let every = run_bytes(run.sum, mr1, mr2);
-    let short = run_space(every, mr1, mr2, (length + 192) % 193);
-    Run {
-        sum: run_space(short, mr1, mr2, length),
-        accepted: std::num::wrapping_add_u64(run.accepted, 1),
+    let every = run_bytes(sum, mr1, mr2);
+    let short = run(every, mr1, mr2, 165, (length + 200) % 201);
+    Total {
+        sum: run(short, mr1, mr2, 165, length),
+        accepted: std::num::wrapping_add_u64(before.accepted, 1),
     }
 }
 
 fn run_mr1(mr1: u8) {
-    let mut run = Run {
+    let mut all = Total {
         sum: 0,
         accepted: 0,
     };
-    let mut mr2: u16 = 0;
-    while mr2 < 256 {
-        run = run_setting(run, mr1, (mr2 % 256) as u8);
-        mr2 += 1;
+    for mr2 in 0..=255 {
+        all = run_setting(all, mr1, mr2);
     }
     print(b"MR1 ");
-    print_number(mr1 as u64);
+    print_byte(mr1);
     print(b": accepts ");
-    print_number(run.accepted);
+    print_number(all.accepted);
     print(b", sum ");
-    print_number(run.sum as u64);
+    print_number(all.sum as u64);
     print(b"\n");
 }
 
 fn run_all() {
-    let mut mr1: u16 = 0;
-    while mr1 < 256 {
-        run_mr1((mr1 % 256) as u8);
-        mr1 += 1;
+    for mr1 in 0..=255 {
+        run_mr1(mr1);
     }
 }
 

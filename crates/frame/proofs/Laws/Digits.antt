@@ -10,7 +10,7 @@ use lib.Count.{ones, ones-step}
 use lib.Dec.{eqb}
 use lib.ListN.{length, getD, replicate}
 use lib.Pow.{mod-pow-add, mod-mod-pow, field, shr-shr, shl-exact, pow-mono}
-use Rattle.frame.specs.Digits.{bit, bitsOf, valueOf, oddHighs}
+use Rattle.frame.specs.Digits.{bit, bitsOf, valueOf, oddOnes}
 
 pub length-bits : (w x : ℕ) → length (bitsOf w x) ≡ w
 unfolding bitsOf
@@ -83,18 +83,18 @@ one-more n zero e = let o : (1 + n) % 2 ≡ 1 = omega arith in rw (o, e)
 one-more n (suc zero) e = let o : (1 + n) % 2 ≡ 0 = omega arith in rw (o, e)
 one-more n (suc (suc r)) e = absurd (omega arith)
 
-odd-step : (r n : ℕ) (bs : List Bool) → r < 2 → eqb (n % 2) 1 ≡ oddHighs bs → eqb ((r + n) % 2) 1 ≡ oddHighs (eqb r 1 ∷ bs)
-unfolding oddHighs
+odd-step : (r n : ℕ) (bs : List Bool) → r < 2 → eqb (n % 2) 1 ≡ oddOnes bs → eqb ((r + n) % 2) 1 ≡ oddOnes (eqb r 1 ∷ bs)
+unfolding oddOnes
 odd-step zero n bs h e = rw zero-add e
 odd-step (suc zero) n bs h e = one-more n (n % 2) refl ∙ ap not e
 odd-step (suc (suc r)) n bs h e = absurd (omega arith)
 
 -- an odd number of bits set is an odd count of them
-pub odd-ones : (w x : ℕ) → x < 2 ^ w → eqb (ones x % 2) 1 ≡ oddHighs (bitsOf w x)
-unfolding bitsOf oddHighs ones
+pub odd-ones : (w x : ℕ) → x < 2 ^ w → eqb (ones x % 2) 1 ≡ oddOnes (bitsOf w x)
+unfolding bitsOf oddOnes ones
 odd-ones zero x h = let z : x ≡ 0 = omega arith in rw z
 odd-ones (suc w) x h = rw (ones-step x) (odd-step (x % 2) (ones (x / 2)) (bitsOf w (x / 2)) (omega arith) (odd-ones w (x / 2) (omega arith)))
 
 -- the parity of a character is that of its data bits, however many bits are counted past them
-pub odd-cut : (v w x : ℕ) → x % 2 ^ w < 2 ^ v → oddHighs (bitsOf v (x % 2 ^ w)) ≡ oddHighs (bitsOf w x)
+pub odd-cut : (v w x : ℕ) → x % 2 ^ w < 2 ^ v → oddOnes (bitsOf v (x % 2 ^ w)) ≡ oddOnes (bitsOf w x)
 odd-cut v w x h = rw (← odd-ones v (x % 2 ^ w) h, odd-ones w (x % 2 ^ w) (mod-lt x (one-le-pow w 2 (omega arith))), bits-cut)

@@ -7,15 +7,16 @@ use native.Mathlib.Omega.{arith}
 use native.Mathlib.Decide.{decLt}
 use native.Mathlib.Numerals.{add-one}
 use native.Mathlib.Nat.{div-eq-of-lt, add-div-left, add-comm, mul-suc}
-use lib.ListN.{length, replicate, getD, length-append, length-replicate, getD-replicate, List·getD-append}
-use lib.Seq.{getD-append-add}
+use lib.ListN.{length, take, replicate, getD, length-append, length-replicate, getD-replicate, List·getD-append}
+use lib.Seq.{getD-append-add, take-append-add}
 use Rattle.frame.specs.declared.format.Format.{Format}
-use Rattle.frame.specs.Pick.{pick, pick-all}
+use Rattle.frame.specs.Pick.{pick}
 use Rattle.frame.specs.Digits.{valueOf, cutOf}
 use Rattle.frame.specs.Format.{formatOf}
 use Rattle.frame.specs.Parity.{dataBits, hasParityOf, parityBitOf, parityBits}
 use Rattle.frame.specs.Stop.{stopLengthOf}
 use Rattle.frame.specs.Levels.{beforeStop, bitsBeforeStopOf, spread, levels, pulsesPerBit, stopPulses, frame, frameLengthOf}
+use Rattle.frame.proofs.Laws.Pick.{pick-all}
 use Rattle.frame.proofs.Laws.Digits.{length-bits, value-bits}
 use Rattle.frame.proofs.Laws.Format.{width-most}
 use Rattle.frame.proofs.Laws.Stop.{stop-most}
@@ -35,6 +36,16 @@ length-spread k (b ∷ bs) =
 pub length-levels : (k n : ℕ) (bs : List Bool) → length (levels k n bs) ≡ k * length bs + n
 unfolding levels
 length-levels k n bs = rw (length-append (spread k bs) (replicate n true), length-spread k bs, length-replicate n true)
+
+take-highs : (n m : ℕ) → n ≤ m → take n (replicate m true) ≡ replicate n true
+take-highs zero m h = refl
+take-highs (suc n) zero h = absurd (omega arith)
+take-highs (suc n) (suc m) h = rw (take-highs n m (omega arith))
+
+-- a stop may be cut short
+pub take-levels : (k n m : ℕ) (bs : List Bool) → n ≤ m → take (k * length bs + n) (levels k m bs) ≡ levels k n bs
+unfolding levels
+take-levels k n m bs h = rw (← length-spread k bs, take-append-add (spread k bs) (replicate m true) n, take-highs n m h)
 
 with-parity : (t p : Bool) (w : ℕ) → suc (w + length (pick t (p ∷ []) [])) ≡ pick t (w + 2) (w + 1)
 unfolding pick
@@ -100,6 +111,7 @@ levels-at k n i (b ∷ bs) z = rw append-assoc (go (decLt i k) (levels-at k n (i
 one-at-least : (sixteen : Bool) → 0 < pulsesPerBit sixteen
 one-at-least sixteen = pick-all (λ (n : ℕ). 0 < n) sixteen 16 1 (omega arith) (omega arith)
 
+-- So is that of a frame, with either clock: bit i / 16, or bit i.
 pub frame-at : (sixteen : Bool) (f : Format) (c x i : ℕ) → getD (frame sixteen f c x) i true ≡ getD (beforeStop f x) (i / pulsesPerBit sixteen) true
 unfolding frame
 frame-at sixteen f c x i = levels-at (pulsesPerBit sixteen) (stopPulses sixteen f c) i (beforeStop f x) (one-at-least sixteen)

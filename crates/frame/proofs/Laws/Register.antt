@@ -12,10 +12,11 @@ use lib.Pow.{pow-add, pow-mono, pow-pos}
 use borrow.Author.Tests.{lt-ltb, le-ltb}
 use Rattle.frame.specs.declared.format.Format.{Format}
 use Rattle.frame.specs.declared.levels.FrameBits.{FrameBits}
-use Rattle.frame.specs.Pick.{pick, pick-yes, pick-no}
+use Rattle.frame.specs.Pick.{pick}
 use Rattle.frame.specs.Digits.{valueOf}
 use Rattle.frame.specs.Parity.{dataBits, hasParityOf, parityBitOf, parityBits}
 use Rattle.frame.specs.Levels.{beforeStop, frameBitsOf, levelOf}
+use Rattle.frame.proofs.Laws.Pick.{pick-yes, pick-no}
 use Rattle.frame.proofs.Laws.Digits.{length-bits, value-bits, value-append, value-highs, value-at}
 
 padded : (bs : List Bool) (m i : ℕ) → i < length bs + m → getD (bs ++ replicate m true) i false ≡ getD bs i true

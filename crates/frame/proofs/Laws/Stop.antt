@@ -1,32 +1,39 @@
 -- The stop length: the two formulas are one table of two rows, its numbers lie between 9 and 32, and only a width of 5 is told from the others. Assumes nothing.
 use Prim.Native.Nat.{ℕ, _+_, _/_, _%_, _≤_, _<_}
-use mathlib.Core.Path.{_≡_}
+use mathlib.Core.Path.{_≡_, refl}
+use mathlib.Core.Bool.{Bool, true, false}
 use native.Mathlib.Omega.{arith}
 use lib.Dec.{eqb, ltb}
-use borrow.Author.Tests.{eq-eqb, ne-eqb, lt-ltb, le-ltb}
+use borrow.Author.Tests.{lt-ltb, le-ltb}
 use Rattle.frame.specs.declared.counts.Bits.{Bits}
-use Rattle.frame.specs.Pick.{pick, pick-all}
-use Rattle.frame.specs.Stop.{stopLengthOf, stopBitsOf}
+use Rattle.frame.specs.Pick.{pick}
+use Rattle.frame.specs.Stop.{rowOf, stopLengthOf, stopBitsOf}
+use Rattle.frame.proofs.Laws.Pick.{pick-all}
 
 -- the table's rule: place k holds code k % 16, for 5 data bits below 16 and for 6 to 8 from there on
 unfoldable pub rows : ℕ → ℕ
 rows k = stopLengthOf (record { 0 = pick (ltb k 16) 5 6 }) k .0
 
-pub row-five : (w : Bits) (c : ℕ) → w .0 ≡ 5 → rows (c % 16) ≡ stopLengthOf w c .0
-unfolding rows stopLengthOf pick
-row-five w c h =
-    let l : c % 16 < 16 = omega arith in
-    let m : c % 16 % 16 ≡ c % 16 = omega arith in
-    rw (lt-ltb (c % 16) 16 l, m, eq-eqb (w .0) 5 h)
+-- a code's place in the row of its width holds its stop length
+pub row-is : (w : Bits) (c : ℕ) → rows (rowOf w + c % 16) ≡ stopLengthOf w c .0
+unfolding rows rowOf stopLengthOf pick
+row-is w c = go (eqb (w .0) 5) refl
+  where
+    go : (t : Bool) → eqb (w .0) 5 ≡ t → rows (rowOf w + c % 16) ≡ stopLengthOf w c .0
+    go true e =
+        let l : 0 + c % 16 < 16 = omega arith in
+        let m : (0 + c % 16) % 16 ≡ c % 16 = omega arith in
+        rw (e, lt-ltb (0 + c % 16) 16 l, m)
+    go false e =
+        let l : 16 ≤ 16 + c % 16 = omega arith in
+        let m : (16 + c % 16) % 16 ≡ c % 16 = omega arith in
+        rw (e, le-ltb (16 + c % 16) 16 l, m)
 
-pub row-others : (w : Bits) (c : ℕ) → (w .0 ≡ 5 → ⊥) → rows (c % 16 + 16) ≡ stopLengthOf w c .0
-unfolding rows stopLengthOf pick
-row-others w c h =
-    let l : 16 ≤ c % 16 + 16 = omega arith in
-    let m : (c % 16 + 16) % 16 ≡ c % 16 = omega arith in
-    rw (le-ltb (c % 16 + 16) 16 l, m, ne-eqb (w .0) 5 h)
+pub row-most : (w : Bits) → rowOf w ≤ 16
+unfolding rowOf
+row-most w = pick-all (λ (n : ℕ). n ≤ 16) (eqb (w .0) 5) _ _ (omega arith) (omega arith)
 
--- "at most 32 sixteenths", and at least 9, with a 16X clock; one bit or two with a 1X clock
+-- 9 to 32 sixteenths with a 16X clock; one bit or two with a 1X clock
 pub stop-least : (w : Bits) (c : ℕ) → 9 ≤ stopLengthOf w c .0
 unfolding stopLengthOf
 stop-least w c = pick-all (λ (n : ℕ). 9 ≤ n) (eqb (w .0) 5) _ _ (omega arith) (pick-all (λ (n : ℕ). 9 ≤ n) (ltb (c % 16) 8) _ _ (omega arith) (omega arith))

@@ -1,11 +1,11 @@
 -- `run_bytes` is safe and ends: the bytes still to run grow fewer. Assumes nothing.
-use Prim.Native.Nat.{_-_}
+use Prim.Native.Nat.{_≤_, _-_}
 use borrow.Author.Needs.{needs}
 use Rattle.frame_runs.proofs.run_bytes.Statement.{statement}
 use Rattle.frame_runs.proofs.run_bytes.Tie as tie
 
 abbrev Inv-loop : tie.InvT-loop
-Inv-loop sum mr1 mr2 s₀ byte₀ s byte = Unit {0}
+Inv-loop sum mr1 mr2 s₀ byte₀ s byte = byte ≤ 255
 
 abbrev μ-loop : tie.MeasureT-loop
 μ-loop sum mr1 mr2 s₀ byte₀ s byte = 256 - byte
@@ -13,11 +13,8 @@ abbrev μ-loop : tie.MeasureT-loop
 loop-holds : tie.Need-loop-holds Inv-loop μ-loop
 loop-holds c = search needs
 
-cast-run-byte : tie.Need-cast-run-byte Inv-loop μ-loop
-cast-run-byte c = search needs
-
-run-byte-requires : tie.Need-run-byte-requires Inv-loop μ-loop
-run-byte-requires c κs = search needs
+run-requires : tie.Need-run-requires Inv-loop μ-loop
+run-requires c κs = search needs
 
 add-byte : tie.Need-add-byte Inv-loop μ-loop
 add-byte c = search needs
@@ -31,6 +28,9 @@ loop-again c = search needs
 returns : tie.Need-returns Inv-loop μ-loop
 returns c = search needs
 
+returns-2 : tie.Need-returns-2 Inv-loop μ-loop
+returns-2 c = search needs
+
 pub run-bytes-spec : {M : Type 1} → statement M
 run-bytes-spec =
     tie.close
@@ -38,9 +38,9 @@ run-bytes-spec =
     Inv-loop
     μ-loop
     loop-holds
-    cast-run-byte
-    run-byte-requires
+    run-requires
     add-byte
     loop-less
     loop-again
-    returns)
+    returns
+    returns-2)

@@ -1,20 +1,17 @@
 -- `run_mr1` is safe and ends: the MR2 still to run grow fewer. Assumes nothing.
-use Prim.Native.Nat.{_-_}
+use Prim.Native.Nat.{_≤_, _-_}
 use borrow.Author.Needs.{needs}
 use Rattle.frame_runs.proofs.run_mr1.Statement.{statement}
 use Rattle.frame_runs.proofs.run_mr1.Tie as tie
 
 abbrev Inv-loop : tie.InvT-loop
-Inv-loop mr1 run₀ mr2₀ t4 t5 t6 t7 run mr2 = Unit {0}
+Inv-loop mr1 all₀ mr2₀ t4 t5 t6 t7 all mr2 = mr2 ≤ 255
 
 abbrev μ-loop : tie.MeasureT-loop
-μ-loop mr1 run₀ mr2₀ t4 t5 t6 t7 run mr2 = 256 - mr2
+μ-loop mr1 all₀ mr2₀ t4 t5 t6 t7 all mr2 = 256 - mr2
 
 loop-holds : tie.Need-loop-holds Inv-loop μ-loop
 loop-holds c = search needs
-
-cast-run-setting : tie.Need-cast-run-setting Inv-loop μ-loop
-cast-run-setting c = search needs
 
 run-setting-requires : tie.Need-run-setting-requires Inv-loop μ-loop
 run-setting-requires c κs = search needs
@@ -34,8 +31,8 @@ slice-aggregate-print c = search needs
 print-requires : tie.Need-print-requires Inv-loop μ-loop
 print-requires c κs = search needs
 
-print-number-requires : tie.Need-print-number-requires Inv-loop μ-loop
-print-number-requires c κs = search needs
+print-byte-requires : tie.Need-print-byte-requires Inv-loop μ-loop
+print-byte-requires c κs = search needs
 
 slice-aggregate-print-2 : tie.Need-slice-aggregate-print-2 Inv-loop μ-loop
 slice-aggregate-print-2 c = search needs
@@ -43,8 +40,8 @@ slice-aggregate-print-2 c = search needs
 print-requires-2 : tie.Need-print-requires-2 Inv-loop μ-loop
 print-requires-2 c κs = search needs
 
-print-number-requires-2 : tie.Need-print-number-requires-2 Inv-loop μ-loop
-print-number-requires-2 c κs = search needs
+print-number-requires : tie.Need-print-number-requires Inv-loop μ-loop
+print-number-requires c κs = search needs
 
 slice-aggregate-print-3 : tie.Need-slice-aggregate-print-3 Inv-loop μ-loop
 slice-aggregate-print-3 c = search needs
@@ -55,8 +52,8 @@ print-requires-3 c κs = search needs
 cast-print-number : tie.Need-cast-print-number Inv-loop μ-loop
 cast-print-number c = search needs
 
-print-number-requires-3 : tie.Need-print-number-requires-3 Inv-loop μ-loop
-print-number-requires-3 c κs = search needs
+print-number-requires-2 : tie.Need-print-number-requires-2 Inv-loop μ-loop
+print-number-requires-2 c κs = search needs
 
 slice-aggregate-print-4 : tie.Need-slice-aggregate-print-4 Inv-loop μ-loop
 slice-aggregate-print-4 c = search needs
@@ -74,21 +71,20 @@ run-mr1-spec =
     Inv-loop
     μ-loop
     loop-holds
-    cast-run-setting
     run-setting-requires
     add-mr2
     loop-less
     loop-again
     slice-aggregate-print
     print-requires
-    print-number-requires
+    print-byte-requires
     slice-aggregate-print-2
     print-requires-2
-    print-number-requires-2
+    print-number-requires
     slice-aggregate-print-3
     print-requires-3
     cast-print-number
-    print-number-requires-3
+    print-number-requires-2
     slice-aggregate-print-4
     print-requires-4
     returns)

@@ -36,14 +36,14 @@ cast-past c = search needs
 shl-past : tie.Need-shl-past
 shl-past c = let n = narrow (c .before) in omega arith
 
-sub-high : tie.Need-sub-high
-sub-high c = let n = weighed c in omega arith
+sub-register : tie.Need-sub-register
+sub-register c = let n = weighed c in omega arith
 
-mul-high : tie.Need-mul-high
-mul-high c = search needs
+mul-register : tie.Need-mul-register
+mul-register c = search needs
 
-add-high : tie.Need-add-high
-add-high c = search needs
+add-register : tie.Need-add-register
+add-register c = search needs
 
 has-parity-requires : tie.Need-has-parity-requires
 has-parity-requires c κs = search needs
@@ -83,9 +83,9 @@ frame-bits-spec =
     cast-data
     cast-past
     shl-past
-    sub-high
-    mul-high
-    add-high
+    sub-register
+    mul-register
+    add-register
     has-parity-requires
     parity-bit-requires
     sub-t15

@@ -11,15 +11,15 @@ shl-result : tie.Need-shl-result
 shl-result c = search needs
 
 rem-result : tie.Need-rem-result
-rem-result c = rw (power 8 (c .before .args .width .0) (c .if1 .taken)) (pow-pos (c .before .args .width .0))
+rem-result c = rw (power 8 (c .before .args .width .0) (omega arith)) (pow-pos (c .before .args .width .0))
 
 returns : tie.Need-returns
-returns c = rw (power 8 (c .before .args .width .0) (c .if1 .taken))
+returns c = rw (power 8 (c .before .args .width .0) (omega arith))
 
 returns-2 : tie.Need-returns-2
 returns-2 c =
     let a = c .before .args in
-    sym (cut-whole 8 (a .width .0) (a .byte) (omega arith) (c .if1 .left))
+    sym (cut-whole 8 (a .width .0) (a .byte) (omega arith) (omega arith))
 
 pub cut-spec : {M : Type 1} → statement M
 cut-spec = tie.close (tie.spec shl-result rem-result returns returns-2)

@@ -1,11 +1,13 @@
 -- `request_frame` meets its contract: the answer is the definition's, and as many levels as it says, the whole frame or none, are written.
 -- Assumes nothing.
-use mathlib.Core.Path.{_≡_, _∙_}
+use mathlib.Core.Path.{_≡_, ap, _∙_}
+use native.Mathlib.Omega.{arith}
 use lib.ListN.{length}
 use denote.Ref.{now}
 use borrow.Author.Needs.{needs}
-use Rattle.frame.specs.Request.{lengthAsked, requestOf}
-use Rattle.frame.proofs.Laws.Request.{within, not-longer, over-asked}
+use Rattle.frame.specs.declared.request.FrameAnswer.{FrameAnswer}
+use Rattle.frame.specs.Request.{requestOf}
+use Rattle.frame.proofs.Laws.Request.{request-within, over-asked}
 use Rattle.frame.proofs.request.request_frame.Statement.{statement}
 use Rattle.frame.proofs.request.request_frame.Tie as tie
 
@@ -41,10 +43,11 @@ answer-of-requires : tie.Need-answer-of-requires
 answer-of-requires c κs = search needs
 
 write-levels-requires : tie.Need-write-levels-requires
-unfolding requestOf
 write-levels-requires c κs =
     let a = c .before .before .before .before .before .before .before .before .args in
-    rw (answered (c .before)) (not-longer _ (lengthAsked (a .mr1) (a .mr2)), within _ (length (now (a .space))) (lengthAsked (a .mr1) (a .mr2)))
+    let e = ap (λ (r : FrameAnswer). r .length .0) (answered (c .before)) in
+    let w = request-within (a .mr1) (a .mr2) (length (now (a .space))) in
+    omega arith
 
 same-length : tie.Need-same-length
 same-length c = search needs

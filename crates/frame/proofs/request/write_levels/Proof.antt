@@ -7,25 +7,25 @@ use native.Mathlib.Omega.{arith}
 use lib.ListN.{length, getD, length-set}
 use denote.Ref.{now}
 use borrow.Author.Needs.{needs}
-use Rattle.frame.specs.Request.{levelsAsked, overFront}
-use Rattle.frame.proofs.Laws.Request.{request-length, request-at, over-more}
+use Rattle.frame.specs.Request.{openLevels, overFront}
+use Rattle.frame.proofs.Laws.Request.{open-length, open-at, over-more}
 use Rattle.frame.proofs.request.write_levels.Statement.{statement}
 use Rattle.frame.proofs.request.write_levels.Tie as tie
 
 abbrev Inv-loop : tie.InvT-loop
-Inv-loop mr1 mr2 byte space₀ frame end i₀ space i =
-    (i ≤ end) × (space ≡ overFront (levelsAsked mr1 mr2 byte) i space₀) × (length space ≡ length space₀)
+Inv-loop mr1 byte space₀ bits end i₀ space i =
+    (i ≤ end) × (space ≡ overFront (openLevels mr1 byte end) i space₀) × (length space ≡ length space₀)
 
 abbrev μ-loop : tie.MeasureT-loop
-μ-loop mr1 mr2 byte space₀ frame end i₀ space i = end - i
+μ-loop mr1 byte space₀ bits end i₀ space i = end - i
 
 level-is : (c : tie.After-level-byte Inv-loop μ-loop)
     → let a = c .before .before .before .before .before .before .args in
-    c .level-byte .result ≡ getD (levelsAsked (a .mr1) (a .mr2) (a .byte)) (c .before .before .before .loop .i) 1
+    c .level-byte .result ≡ getD (openLevels (a .mr1) (a .byte) (a .pulses .0)) (c .before .before .before .loop .i) 1
 level-is c =
     let a = c .before .before .before .before .before .before .args in
     rw (c .level-byte .ensures, c .before .level-of .ensures, c .before .before .before .before .frame-bits .ensures)
-    (sym (request-at (a .mr1) (a .mr2) (a .byte) (c .before .before .before .loop .i)))
+    (sym (open-at (a .mr1) (a .byte) (a .pulses .0) (c .before .before .before .loop .i)))
 
 frame-bits-requires : tie.Need-frame-bits-requires Inv-loop μ-loop
 frame-bits-requires c κs = search needs
@@ -56,10 +56,10 @@ loop-again c =
     let at = c .before .before .before in
     let start = at .before .before .before in
     let a = start .args in
-    let n = request-length (a .mr1) (a .mr2) (a .byte) in (
+    let n = open-length (a .mr1) (a .byte) (a .pulses .0) in (
       omega arith,
       rw (level-is c, at .loop .inv .1, add-one)
-          (over-more (levelsAsked (a .mr1) (a .mr2) (a .byte)) (now (a .space)) (at .loop .i) (omega (arith, start .pre)) (omega (arith, start .pre))),
+          (over-more (openLevels (a .mr1) (a .byte) (a .pulses .0)) (now (a .space)) (at .loop .i) (omega (arith, start .pre)) (omega arith)),
       simp length-set (at .loop .inv .2),
     )
 
