@@ -33,7 +33,7 @@ firstRefusal setting space = pick setting 5 (pick space 8 0)
 
 -- "It answers the number and the length, 0 if refused."
 unfoldable pub answerOf : ℕ → Pulses → FrameAnswer
-answerOf number l = record { number = number; length = pick (eqb number 0) l (record { 0 = 0 }) }
+answerOf number pulses = record { number = number; length = pick (eqb number 0) pulses (record { 0 = 0 }) }
 
 -- the answer to a request with a space of `n` bytes
 unfoldable pub requestOf : ℕ → ℕ → ℕ → FrameAnswer

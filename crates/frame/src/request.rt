@@ -39,11 +39,14 @@ fn first_refusal(not_modelled: bool, space_short: bool) -> u8
 }
 
 // "It answers the number and the length, 0 if refused."
-fn answer_of(number: u8, length: Pulses) -> FrameAnswer
-    ensures { λ r. ⌜ r ≡ answerOf number length ⌝ }
+fn answer_of(number: u8, pulses: Pulses) -> FrameAnswer
+    ensures { λ r. ⌜ r ≡ answerOf number pulses ⌝ }
 {
     if number == ACCEPTED {
-        return FrameAnswer { number, length };
+        return FrameAnswer {
+            number,
+            length: pulses,
+        };
     }
     FrameAnswer {
         number,
@@ -81,10 +84,10 @@ pub fn request_frame(mr1: u8, mr2: u8, byte: u8, space: &mut [u8]) -> FrameAnswe
     ensures space { λ _. ⌜ now (space .exit) ≡ spaceAfter mr1 mr2 byte (now (space .entry)) ⌝ }
 {
     let not_modelled = mr1_not_modelled(mr1) | mr2_not_modelled(mr2);
-    let length = frame_length(mr1, mr2, true);
-    let end = length.0 as usize;
+    let pulses = frame_length(mr1, mr2, true);
+    let end = pulses.0 as usize;
     let space_short = space.len() < end;
-    let answer = answer_of(first_refusal(not_modelled, space_short), length);
+    let answer = answer_of(first_refusal(not_modelled, space_short), pulses);
     write_levels(mr1, byte, answer.length, space);
     answer
 }
