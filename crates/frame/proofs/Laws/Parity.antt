@@ -1,0 +1,35 @@
+-- What a parity bit is for: with it, the ones among the data bits in use and the parity bit are odd in number exactly where odd is chosen.
+-- Assumes nothing.
+use Prim.Native.Nat.{ℕ}
+use mathlib.Core.Path.{_≡_, refl, ap, _∙_}
+use mathlib.Core.Bool.{Bool, true, false, not}
+use mathlib.Core.List.{List, [], _∷_, _++_}
+use borrow.Author.Tests.{eq-eqb}
+use Rattle.frame.specs.declared.format.Format.{Format}
+use Rattle.frame.specs.Pick.{pick}
+use Rattle.frame.specs.Digits.{oddOnes}
+use Rattle.frame.specs.Parity.{dataBits, parityBitOf}
+
+one-more : (bs : List Bool) (b : Bool) → oddOnes (bs ++ (b ∷ [])) ≡ pick b (not (oddOnes bs)) (oddOnes bs)
+unfolding oddOnes pick
+one-more [] true = refl
+one-more [] false = refl
+one-more (false ∷ bs) b = one-more bs b
+one-more (true ∷ bs) true = ap not (one-more bs true)
+one-more (true ∷ bs) false = ap not (one-more bs false)
+
+chosen : (o d : Bool) → pick (pick o (not d) d) (not d) d ≡ o
+unfolding pick
+chosen true true = refl
+chosen true false = refl
+chosen false true = refl
+chosen false false = refl
+
+pub with-parity : (f : Format) (x : ℕ) → f .parity ≡ 0 → oddOnes (dataBits f x ++ (parityBitOf f x ∷ [])) ≡ f .odd
+unfolding parityBitOf pick
+with-parity f x e = one-more (dataBits f x) (parityBitOf f x) ∙ rw (eq-eqb (f .parity) 0 e) (chosen (f .odd) (oddOnes (dataBits f x)))
+
+-- forced: low, or high
+pub forced-parity : (f : Format) (x : ℕ) → f .parity ≡ 1 → parityBitOf f x ≡ f .odd
+unfolding parityBitOf pick
+forced-parity f x e = rw e
