@@ -47,15 +47,15 @@ pub take-levels : (k n m : ℕ) (bs : List Bool) → n ≤ m → take (k * lengt
 unfolding levels
 take-levels k n m bs h = rw (← length-spread k bs, take-append-add (spread k bs) (replicate m true) n, take-highs n m h)
 
-with-parity : (t p : Bool) (w : ℕ) → suc (w + length (pick t (p ∷ []) [])) ≡ pick t (w + 2) (w + 1)
+counted : (t p : Bool) (w : ℕ) → suc (w + length (pick t (p ∷ []) [])) ≡ pick t (w + 2) (w + 1)
 unfolding pick
-with-parity true p w = omega arith
-with-parity false p w = omega arith
+counted true p w = omega arith
+counted false p w = omega arith
 
 pub length-before-stop : (f : Format) (x : ℕ) → length (beforeStop f x) ≡ bitsBeforeStopOf f .0
 unfolding beforeStop bitsBeforeStopOf parityBits
 length-before-stop f x =
-    rw (length-append (dataBits f x) (parityBits f x), length-bits (f .width .0) x) (with-parity (hasParityOf f) (parityBitOf f x) (f .width .0))
+    rw (length-append (dataBits f x) (parityBits f x), length-bits (f .width .0) x) (counted (hasParityOf f) (parityBitOf f x) (f .width .0))
 
 -- A frame is as long as its format's sum, with either clock.
 pub frame-length : (sixteen : Bool) (f : Format) (c x : ℕ) → length (frame sixteen f c x) ≡ frameLengthOf sixteen f c .0
