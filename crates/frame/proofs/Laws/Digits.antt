@@ -63,7 +63,7 @@ lowest : (b : Bool) (v : ℕ) → b ≡ eqb ((bit b + 2 * v) % 2) 1
 lowest true v = let e : (1 + 2 * v) % 2 ≡ 1 = omega arith in rw e
 lowest false v = let e : (0 + 2 * v) % 2 ≡ 0 = omega arith in rw e
 
-bit-small : (b : Bool) → bit b < 2
+pub bit-small : (b : Bool) → bit b < 2
 bit-small true = omega arith
 bit-small false = omega arith
 

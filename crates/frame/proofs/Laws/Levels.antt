@@ -19,7 +19,7 @@ use Rattle.frame.specs.Levels.{beforeStop, bitsBeforeStopOf, spread, lev
 use Rattle.frame.proofs.Laws.Pick.{pick-all}
 use Rattle.frame.proofs.Laws.Digits.{length-bits, value-bits}
 use Rattle.frame.proofs.Laws.Format.{width-most}
-use Rattle.frame.proofs.Laws.Stop.{stop-most}
+use Rattle.frame.proofs.Laws.Stop.{stop-most, bits-most}
 
 pub before-stop-most : (mr1 : ℕ) → bitsBeforeStopOf (formatOf mr1) .0 ≤ 10
 unfolding bitsBeforeStopOf
@@ -71,12 +71,16 @@ length-sixteen f c = go (hasParityOf f)
     go true = omega arith
     go false = omega arith
 
--- "at most 192"
-pub length-most : (mr1 c : ℕ) → frameLengthOf true (formatOf mr1) c .0 ≤ 192
+-- "at most 192", and 12 with a 1X clock
+pub length-most : (sixteen : Bool) (mr1 c : ℕ) → frameLengthOf sixteen (formatOf mr1) c .0 ≤ pick sixteen 192 12
 unfolding frameLengthOf pick
-length-most mr1 c =
+length-most true mr1 c =
     let b = before-stop-most mr1 in
     let s = stop-most (formatOf mr1 .width) c in
+    omega arith
+length-most false mr1 c =
+    let b = before-stop-most mr1 in
+    let s = bits-most c in
     omega arith
 
 highs : (n i : ℕ) → getD (replicate n true) i true ≡ true

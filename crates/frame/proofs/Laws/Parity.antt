@@ -10,13 +10,13 @@ use Rattle.frame.specs.Pick.{pick}
 use Rattle.frame.specs.Digits.{oddOnes}
 use Rattle.frame.specs.Parity.{dataBits, parityBitOf}
 
-one-more : (bs : List Bool) (b : Bool) → oddOnes (bs ++ (b ∷ [])) ≡ pick b (not (oddOnes bs)) (oddOnes bs)
+one-appended : (bs : List Bool) (b : Bool) → oddOnes (bs ++ (b ∷ [])) ≡ pick b (not (oddOnes bs)) (oddOnes bs)
 unfolding oddOnes pick
-one-more [] true = refl
-one-more [] false = refl
-one-more (false ∷ bs) b = one-more bs b
-one-more (true ∷ bs) true = ap not (one-more bs true)
-one-more (true ∷ bs) false = ap not (one-more bs false)
+one-appended [] true = refl
+one-appended [] false = refl
+one-appended (false ∷ bs) b = one-appended bs b
+one-appended (true ∷ bs) true = ap not (one-appended bs true)
+one-appended (true ∷ bs) false = ap not (one-appended bs false)
 
 chosen : (o d : Bool) → pick (pick o (not d) d) (not d) d ≡ o
 unfolding pick
@@ -27,7 +27,7 @@ chosen false false = refl
 
 pub with-parity : (f : Format) (x : ℕ) → f .parity ≡ 0 → oddOnes (dataBits f x ++ (parityBitOf f x ∷ [])) ≡ f .odd
 unfolding parityBitOf pick
-with-parity f x e = one-more (dataBits f x) (parityBitOf f x) ∙ rw (eq-eqb (f .parity) 0 e) (chosen (f .odd) (oddOnes (dataBits f x)))
+with-parity f x e = one-appended (dataBits f x) (parityBitOf f x) ∙ rw (eq-eqb (f .parity) 0 e) (chosen (f .odd) (oddOnes (dataBits f x)))
 
 -- forced: low, or high
 pub forced-parity : (f : Format) (x : ℕ) → f .parity ≡ 1 → parityBitOf f x ≡ f .odd

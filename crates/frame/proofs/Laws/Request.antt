@@ -15,6 +15,7 @@ use Rattle.frame.specs.Digits.{bit}
 use Rattle.frame.specs.Format.{formatOf, stopCodeOf}
 use Rattle.frame.specs.Levels.{beforeStop, levels, stopPulses, frame, frameLengthOf, frameBitsOf, levelOf}
 use Rattle.frame.specs.Request.{lengthAsked, levelsAsked, notModelled, firstRefusal, answerOf, requestOf, openLevels, overFront, spaceAfter}
+use Rattle.frame.proofs.Laws.Digits.{bit-small}
 use Rattle.frame.proofs.Laws.Levels.{before-stop-most, length-before-stop, length-levels, levels-at, take-levels, frame-length}
 use Rattle.frame.proofs.Laws.Register.{register-at}
 
@@ -36,11 +37,9 @@ open-length mr1 x n =
 -- "one byte 0 or 1"
 pub request-small : (mr1 mr2 x i : ℕ) → getD (levelsAsked mr1 mr2 x) i 1 ≤ 1
 unfolding frame pick
-request-small mr1 mr2 x i = rw (open-at mr1 x (stopPulses true (formatOf mr1) (stopCodeOf mr2)) i) (go (levelOf (frameBitsOf (formatOf mr1) x) (record { 0 = i / 16 })))
-  where
-    go : (b : Bool) → bit b ≤ 1
-    go true = omega arith
-    go false = omega arith
+request-small mr1 mr2 x i =
+    let small = bit-small (levelOf (frameBitsOf (formatOf mr1) x) (record { 0 = i / 16 })) in
+    rw (open-at mr1 x (stopPulses true (formatOf mr1) (stopCodeOf mr2)) i) (omega arith)
 
 -- one byte more is written over the front
 pub over-more : (l s : List ℕ) (i : ℕ) → i < length s → i < length l → set (overFront l i s) i (getD l i 1) ≡ overFront l (suc i) s
