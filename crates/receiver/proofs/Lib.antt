@@ -1,0 +1,3 @@
+-- The laws that the crates above cite, and the theorems.
+pub mod Laws
+pub mod ReadBack

@@ -1,0 +1,181 @@
+-- The read-back of demand 2. What an idle sampler hears of a frame is one confirmed start and one clean arrival (Laws/Heard); what
+-- arrives, and what the queue comes to hold, follow from what is heard. Assumes nothing.
+use Prim.Native.Nat.{ℕ, zero, suc, _≤_}
+use mathlib.Core.Path.{_≡_, refl, sym, ap, _∙_}
+use mathlib.Core.Bool.{Bool, true, false}
+use mathlib.Core.List.{List, [], _∷_, _++_, append-assoc}
+use native.Mathlib.Omega.{arith}
+use lib.ListN.{length, take}
+use Rattle.frame.specs.declared.format.Format.{Format}
+use Rattle.frame.specs.Pick.{pick}
+use Rattle.frame.specs.Digits.{cutOf}
+use Rattle.frame.specs.Format.{formatOf}
+use Rattle.frame.specs.Stop.{stopLengthOf}
+use Rattle.frame.specs.Levels.{beforeStop, spread, levels, frame}
+use Rattle.frame.proofs.Laws.Format.{width-most}
+use Rattle.frame.proofs.Laws.Stop.{stop-least}
+use Rattle.sampler.specs.declared.character.Character.{Character}
+use Rattle.sampler.specs.declared.sampler.Came.{Came}
+use Rattle.sampler.specs.declared.sampler.Came.the-variants.{NoCharacter, Arrival}
+use Rattle.sampler.specs.declared.sampler.Sampled.{Sampled}
+use Rattle.sampler.specs.declared.sampler.Sampler.{Sampler}
+use Rattle.sampler.specs.declared.sampler.Setting.{Setting}
+use Rattle.sampler.specs.Character.{clean}
+use Rattle.sampler.specs.Lines.{at16, Line, hears, listOf, afterLines, arrivals}
+use Rattle.sampler.specs.Sampler.{hunting, hunted, sampleOf}
+use Rattle.sampler.proofs.Laws.Heard.{Said, begun, coming, heard, reached, Ran, hears-frame}
+use Rattle.sampler.proofs.Laws.Heard.Said.{began, came}
+use Rattle.receiver.specs.declared.queue.Queue.{Queue}
+use Rattle.receiver.specs.declared.receiver.Feed.{Feed}
+use Rattle.receiver.specs.declared.receiver.Receiver.{Receiver}
+use Rattle.receiver.specs.Delivery.{linesOf, linesOver, after}
+use Rattle.receiver.specs.Queue.{heldOf, putOf, withoutWaitingOf}
+use Rattle.receiver.specs.ReadBack.{pulses, sent, sentAll, Idle, ReadBack, ReadBackAll}
+use Rattle.receiver.specs.Receiver.{heardOf, startedOf, enteredOf, arrivedOf, pulsedOf, fedOf}
+
+-- ---- an idle sampler is at its first pulse as one that just heard a high ----
+
+sample-idle : (s : Sampler) (b : Bool) (f : Setting) → Idle s → sampleOf s b f ≡ sampleOf (hunting true) b f
+unfolding sampleOf hunted pick
+sample-idle s b f i = rw (i .hunts, i .high)
+
+ran-idle : {f : Setting} {s t : Sampler} {b : Bool} {ls : List Bool} {x : List Said} → Idle s → Ran f (hunting true) (b ∷ ls) x t → Ran f s (b ∷ ls) x t
+unfolding heard reached
+ran-idle {f} {s} {t} {b} i r = record { says = rw (sample-idle s b f i) (r .says); ends = rw (sample-idle s b f i) (r .ends) }
+
+idle-hears : (f : Format) (n x : ℕ) (s : Sampler) → f .width .0 ≤ 8 → 9 ≤ n → Idle s
+    → Ran (at16 f) s (levels 16 n (beforeStop f x)) (began ∷ came (clean (cutOf (f .width .0) x)) ∷ []) (hunting true)
+unfolding levels spread beforeStop
+idle-hears f n x s w h i = ran-idle i (hears-frame f n x w h)
+
+-- ---- over pulses, what the sampler hears arrives, and the queue follows it ----
+
+abbrev arriving : List Said → List Character
+arriving [] = []
+arriving (began ∷ l) = arriving l
+arriving (came c ∷ l) = c ∷ arriving l
+
+abbrev plays : List Said → Queue → Queue
+plays [] q = q
+plays (began ∷ l) q = plays l (withoutWaitingOf q)
+plays (came c ∷ l) q = plays l (putOf q c)
+
+arrivals-heard : (f : Setting) (s : Sampler) (ls : List Bool) → arrivals s (linesOver (pulses f ls)) ≡ arriving (heard f s ls)
+unfolding arrivals linesOver hears heard
+arrivals-heard f s [] = refl
+arrivals-heard f s (b ∷ ls) = rw (arrivals-heard f (sampleOf s b f .next) ls) (said (sampleOf s b f .started) (sampleOf s b f .came) _)
+  where
+    said : (t : Bool) (o : Came) (l : List Said) → listOf o ++ arriving l ≡ arriving (begun t ++ (coming o ++ l))
+    said true NoCharacter l = refl
+    said true (Arrival c) l = refl
+    said false NoCharacter l = refl
+    said false (Arrival c) l = refl
+
+lines-reached : (f : Setting) (s : Sampler) (ls : List Bool) → afterLines s (linesOver (pulses f ls)) ≡ reached f s ls
+unfolding afterLines linesOver hears reached
+lines-reached f s [] = refl
+lines-reached f s (b ∷ ls) = lines-reached f (sampleOf s b f .next) ls
+
+sampler-stays : (r : Receiver) (t : Bool) (o : Came) → arrivedOf (startedOf r t) o .sampler ≡ r .sampler
+unfolding startedOf arrivedOf enteredOf pick
+sampler-stays r true NoCharacter = refl
+sampler-stays r true (Arrival c) = refl
+sampler-stays r false NoCharacter = refl
+sampler-stays r false (Arrival c) = refl
+
+plays-one : (r : Receiver) (t : Bool) (o : Came) (l : List Said) → plays l (arrivedOf (startedOf r t) o .queue) ≡ plays (begun t ++ (coming o ++ l)) (r .queue)
+unfolding startedOf arrivedOf enteredOf pick
+plays-one r true NoCharacter l = refl
+plays-one r true (Arrival c) l = refl
+plays-one r false NoCharacter l = refl
+plays-one r false (Arrival c) l = refl
+
+pulsed-sampler : (r : Receiver) (b : Bool) (f : Setting) → pulsedOf r b f .sampler ≡ sampleOf (r .sampler) b f .next
+unfolding pulsedOf
+pulsed-sampler r b f = let m : Sampled = sampleOf (r .sampler) b f in sampler-stays (heardOf r (m .next) (m .change)) (m .started) (m .came)
+
+pulsed-queue : (r : Receiver) (b : Bool) (f : Setting) (ls : List Bool)
+    → plays (heard f (sampleOf (r .sampler) b f .next) ls) (pulsedOf r b f .queue) ≡ plays (heard f (r .sampler) (b ∷ ls)) (r .queue)
+unfolding pulsedOf heard
+pulsed-queue r b f ls =
+    let m : Sampled = sampleOf (r .sampler) b f in
+    plays-one (heardOf r (m .next) (m .change)) (m .started) (m .came) (heard f (m .next) ls)
+
+after-sampler : (f : Setting) (r : Receiver) (ls : List Bool) → after fedOf r (pulses f ls) .sampler ≡ reached f (r .sampler) ls
+unfolding after fedOf reached
+after-sampler f r [] = refl
+after-sampler f r (b ∷ ls) = after-sampler f (pulsedOf r b f) ls ∙ rw (pulsed-sampler r b f)
+
+after-queue : (f : Setting) (r : Receiver) (ls : List Bool) → after fedOf r (pulses f ls) .queue ≡ plays (heard f (r .sampler) ls) (r .queue)
+unfolding after fedOf heard
+after-queue f r [] = refl
+after-queue f r (b ∷ ls) = after-queue f (pulsedOf r b f) ls ∙ rw (pulsed-sampler r b f) (pulsed-queue r b f ls)
+
+-- ---- into an empty queue ----
+
+none-held : (n : ℕ) (c : Character) (l : List Character) → take n (c ∷ l) ≡ [] → n ≡ 0
+none-held zero c l e = refl
+none-held (suc n) c l e = absurd (let k = ap length e in omega arith)
+
+-- a confirmed start removes nothing, and what then arrives is the one held
+one-held : (q : Queue) (c : Character) → heldOf q ≡ [] → heldOf (putOf (withoutWaitingOf q) c) ≡ c ∷ []
+unfolding heldOf putOf withoutWaitingOf pick
+one-held q c e = rw (none-held (q .count) (q .first) _ e)
+
+idle-again : {s : Sampler} → s ≡ hunting true → Idle s
+idle-again e = record { hunts = rw e; high = rw e }
+
+-- Any width that MR1 can choose, every parity number, every stop of nine sixteenths or more, every byte.
+pub read-back : (f : Format) (n x : ℕ) (r : Receiver) → f .width .0 ≤ 8 → 9 ≤ n → Idle (r .sampler) → heldOf (r .queue) ≡ [] → ReadBack f n x r
+read-back f n x r w h i e =
+    let ls : List Bool = levels 16 n (beforeStop f x) in
+    let k = idle-hears f n x (r .sampler) w h i in
+    record {
+      one = rw (arrivals-heard (at16 f) (r .sampler) ls, k .says);
+      held = rw (after-queue (at16 f) r ls, k .says) (one-held (r .queue) (clean (cutOf (f .width .0) x)) e);
+      idle = idle-again (after-sampler (at16 f) r ls ∙ k .ends);
+    }
+
+-- ---- frames back to back ----
+
+lines-append : (a b : List Feed) → linesOver (a ++ b) ≡ linesOver a ++ linesOver b
+unfolding linesOver
+lines-append [] b = refl
+lines-append (e ∷ a) b = rw (lines-append a b) (sym (append-assoc (linesOf e) (linesOver a) (linesOver b)))
+
+after-append : (s : Sampler) (a b : List Line) → afterLines s (a ++ b) ≡ afterLines (afterLines s a) b
+unfolding afterLines
+after-append s [] b = refl
+after-append s (x ∷ a) b = after-append (hears s x .next) a b
+
+arrivals-append : (s : Sampler) (a b : List Line) → arrivals s (a ++ b) ≡ arrivals s a ++ arrivals (afterLines s a) b
+unfolding arrivals afterLines
+arrivals-append s [] b = refl
+arrivals-append s (x ∷ a) b = rw (arrivals-append (hears s x .next) a b) (sym (append-assoc (listOf (hears s x .came)) _ _))
+
+pub read-back-all : (f : Format) (n : ℕ) (xs : List ℕ) (s : Sampler) → f .width .0 ≤ 8 → 9 ≤ n → Idle s → ReadBackAll f n xs s
+unfolding linesOver arrivals afterLines
+read-back-all f n [] s w h i = record { each = refl; idle = i }
+read-back-all f n (x ∷ xs) s w h i =
+    let ls : List Bool = levels 16 n (beforeStop f x) in
+    let k = idle-hears f n x s w h i in
+    let a : List Line = linesOver (sent f n x) in
+    let b : List Line = linesOver (sentAll f n xs) in
+    let t : afterLines s a ≡ hunting true = lines-reached (at16 f) s ls ∙ k .ends in
+    let rest = read-back-all f n xs (hunting true) w h (idle-again refl) in
+    record {
+      each = rw (lines-append (sent f n x) (sentAll f n xs), arrivals-append s a b, t, arrivals-heard (at16 f) s ls, k .says, rest .each);
+      idle = rw (lines-append (sent f n x) (sentAll f n xs), after-append s a b, t) (rest .idle);
+    }
+
+-- ---- what a transmitter sends ----
+
+-- The frame of a format and a stop code, with a 16X clock, is one of those above.
+pub sent-frame : (f : Format) (c x : ℕ) → pulses (at16 f) (frame true f c x) ≡ sent f (stopLengthOf (f .width) c .0) x
+unfolding frame pick
+sent-frame f c x = refl
+
+-- So it is read back, for any byte in MR1 and any stop code of MR2.
+pub read-back-frame : (mr1 c x : ℕ) (r : Receiver) → Idle (r .sampler) → heldOf (r .queue) ≡ []
+    → ReadBack (formatOf mr1) (stopLengthOf (formatOf mr1 .width) c .0) x r
+read-back-frame mr1 c x r i e = read-back (formatOf mr1) _ x r (width-most mr1) (stop-least (formatOf mr1 .width) c) i e

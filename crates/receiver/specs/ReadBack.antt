@@ -1,0 +1,54 @@
+-- The read-back of demand 2: "A frame the transmitter sends is read back by an idle, enabled, empty, undisturbed receiver with the
+-- same format and 16X pulses as the same character, cut to its data bits, without an error mark." Assumes nothing.
+use Prim.Native.Nat.{ℕ}
+use mathlib.Core.Path.{_≡_}
+use mathlib.Core.Bool.{Bool, true}
+use mathlib.Core.List.{List, [], _∷_, _++_}
+use Rattle.frame.specs.declared.format.Format.{Format}
+use Rattle.frame.specs.Digits.{cutOf}
+use Rattle.frame.specs.Levels.{beforeStop, levels}
+use Rattle.sampler.specs.declared.character.Character.{Character}
+use Rattle.sampler.specs.declared.sampler.Sampler.{Sampler}
+use Rattle.sampler.specs.declared.sampler.Setting.{Setting}
+use Rattle.sampler.specs.Character.{clean}
+use Rattle.sampler.specs.Lines.{at16, afterLines, arrivals}
+use Rattle.receiver.specs.declared.receiver.Feed.{Feed}
+use Rattle.receiver.specs.declared.receiver.Feed.the-variants.{Pulse}
+use Rattle.receiver.specs.declared.receiver.Receiver.{Receiver}
+use Rattle.receiver.specs.Delivery.{linesOver, after}
+use Rattle.receiver.specs.Queue.{heldOf}
+use Rattle.receiver.specs.Receiver.{fedOf}
+
+-- levels, one a pulse
+abbrev pub pulses : Setting → List Bool → List Feed
+pulses f [] = []
+pulses f (level ∷ ls) = Pulse level f ∷ pulses f ls
+
+-- the frame of byte `x` in a format, with a stop of `n` sixteenths, as feeds
+abbrev pub sent : Format → ℕ → ℕ → List Feed
+sent f n x = pulses (at16 f) (levels 16 n (beforeStop f x))
+
+-- frames back to back
+abbrev pub sentAll : Format → ℕ → List ℕ → List Feed
+sentAll f n [] = []
+sentAll f n (x ∷ xs) = sent f n x ++ sentAll f n xs
+
+-- "it is idle while it hunts and its last sample was high"
+pub record Idle (s : Sampler) : Type 0 where
+  pub hunts : s .phase ≡ 0
+  pub high : s .high ≡ true
+
+abbrev pub cleanCuts : Format → List ℕ → List Character
+cleanCuts f [] = []
+cleanCuts f (x ∷ xs) = clean (cutOf (f .width .0) x) ∷ cleanCuts f xs
+
+-- Exactly one character arrives, the byte cut to its data bits and without a mark; it is the one held; the receiver is idle again.
+pub record ReadBack (f : Format) (n x : ℕ) (r : Receiver) : Type 0 where
+  pub one : arrivals (r .sampler) (linesOver (sent f n x)) ≡ clean (cutOf (f .width .0) x) ∷ []
+  pub held : heldOf (after fedOf r (sent f n x) .queue) ≡ clean (cutOf (f .width .0) x) ∷ []
+  pub idle : Idle (after fedOf r (sent f n x) .sampler)
+
+-- Frames back to back: each byte arrives once, in order, cut to its data bits and without a mark, and the sampler is idle again.
+pub record ReadBackAll (f : Format) (n : ℕ) (xs : List ℕ) (s : Sampler) : Type 0 where
+  pub each : arrivals s (linesOver (sentAll f n xs)) ≡ cleanCuts f xs
+  pub idle : Idle (afterLines s (linesOver (sentAll f n xs)))

@@ -1,0 +1,31 @@
+-- "Sound means no more than this: fields in ranges listed in docs/ that hold every value a rule here can put there, .. and the
+-- waiting place used only with three characters held and no confirmed start under way." docs/SOUND.md lists the same ranges. A
+-- byte, a mark and a flag may be any of their type. Assumes nothing.
+use mathlib.Core.Bool.{Bool, true, not, _&&_, _||_}
+use lib.Dec.{eqb, leb}
+use Rattle.sampler.specs.Sound.{settingInRange, samplerInRange}
+use Rattle.receiver.specs.declared.queue.Queue.{Queue}
+use Rattle.receiver.specs.declared.receiver.Feed.{Feed}
+use Rattle.receiver.specs.declared.receiver.Feed.the-variants.{Nothing, Pulse, Command, Read, ChipReset}
+use Rattle.receiver.specs.declared.receiver.Receiver.{Receiver}
+use Rattle.receiver.specs.Queue.{waitsOf}
+
+-- "At most four are ever held."
+abbrev pub queueInRange : Queue → Bool
+queueInRange q = leb (q .count) 4
+
+abbrev pub receiverInRange : Receiver → Bool
+receiverInRange r = samplerInRange (r .sampler) && queueInRange (r .queue)
+
+-- What a register accepts is in range; so is what a feed carries then.
+abbrev pub feedInRange : Feed → Bool
+feedInRange Nothing = true
+feedInRange (Pulse level f) = settingInRange f
+feedInRange (Command e t) = true
+feedInRange Read = true
+feedInRange ChipReset = true
+
+-- "the waiting place used only with three characters held and no confirmed start under way": the layout counts the waiting one
+-- as the fourth, so that three are held with it; phase 2 is a confirmed start under way
+abbrev pub waitingSound : Receiver → Bool
+waitingSound r = not (waitsOf (r .queue)) || not (eqb (r .sampler .phase) 2)

@@ -1,0 +1,17 @@
+-- What a receiver shows of itself in the status register. Assumes nothing.
+use mathlib.Core.Bool.{Bool, not}
+use Rattle.frame.specs.Pick.{pick}
+use Rattle.sampler.specs.declared.character.Marks.{Marks}
+use Rattle.receiver.specs.declared.receiver.Receiver.{Receiver}
+use Rattle.receiver.specs.declared.status.Status.{Status}
+use Rattle.receiver.specs.Queue.{isEmptyOf, isFullOf}
+use Rattle.receiver.specs.Receiver.{oldestMarks}
+
+-- "Character errors: SR 7-5 show the oldest's marks, 0 if none. Block: the marks, each bit ORed, of all that became oldest since
+-- command 4 or a chip reset."
+unfoldable pub shownMarks : Receiver → Bool → Marks
+shownMarks r block = pick block (r .sums) (oldestMarks (r .queue))
+
+-- "RxRDY: queue not empty. FFULL: three in the queue."
+abbrev pub statusOf : Receiver → Bool → Status
+statusOf r block = record { marks = shownMarks r block; overrun = r .overrun; full = isFullOf (r .queue); ready = not (isEmptyOf (r .queue)) }
