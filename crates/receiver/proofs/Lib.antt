@@ -1,3 +1,5 @@
 -- The laws that the crates above cite, and the theorems.
 pub mod Laws
+pub mod Delivery
 pub mod ReadBack
+pub mod Wrong

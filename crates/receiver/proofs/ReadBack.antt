@@ -18,11 +18,12 @@ use Rattle.sampler.specs.declared.character.Character.{Character}
 use Rattle.sampler.specs.declared.sampler.Came.{Came}
 use Rattle.sampler.specs.declared.sampler.Came.the-variants.{NoCharacter, Arrival}
 use Rattle.sampler.specs.declared.sampler.Sampled.{Sampled}
-use Rattle.sampler.specs.declared.sampler.Sampler.{Sampler}
-use Rattle.sampler.specs.declared.sampler.Setting.{Setting}
+use Rattle.sampler.specs.declared.state.Sampler.{Sampler}
+use Rattle.sampler.specs.declared.state.Setting.{Setting}
 use Rattle.sampler.specs.Character.{clean}
 use Rattle.sampler.specs.Lines.{at16, Line, hears, listOf, afterLines, arrivals}
-use Rattle.sampler.specs.Sampler.{hunting, hunted, sampleOf}
+use Rattle.sampler.specs.State.{hunting}
+use Rattle.sampler.specs.Sampler.{hunted, sampleOf}
 use Rattle.sampler.proofs.Laws.Heard.{Said, begun, coming, heard, reached, Ran, hears-frame}
 use Rattle.sampler.proofs.Laws.Heard.Said.{began, came}
 use Rattle.receiver.specs.declared.queue.Queue.{Queue}

@@ -13,11 +13,11 @@ use Rattle.sampler.specs.declared.character.Marks.{Marks}
 use Rattle.sampler.specs.declared.sampler.Came.{Came}
 use Rattle.sampler.specs.declared.sampler.Came.the-variants.{NoCharacter, Arrival}
 use Rattle.sampler.specs.declared.sampler.Sampled.{Sampled}
-use Rattle.sampler.specs.declared.sampler.Sampler.{Sampler}
+use Rattle.sampler.specs.declared.state.Sampler.{Sampler}
 use Rattle.sampler.specs.Character.{noMarks, unmarkedOf}
 use Rattle.sampler.specs.Lines.{Line, hears, arrivals}
 use Rattle.sampler.specs.Lines.Line.{pulse, enable, disable}
-use Rattle.sampler.specs.Sampler.{hunting}
+use Rattle.sampler.specs.State.{hunting}
 use Rattle.receiver.specs.declared.receiver.Effect.{Effect}
 use Rattle.receiver.specs.declared.receiver.Effect.the-variants.{NoEffect, Reset, ClearErrors, ClearChange}
 use Rattle.receiver.specs.declared.receiver.Fed.{Fed}

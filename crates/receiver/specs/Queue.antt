@@ -60,12 +60,14 @@ oldestOf q = q .first
 abbrev pub waitsOf : Queue → Bool
 waitsOf q = leb 4 (q .count)
 
+-- With four held no place is left; the sampler never lets it come to that (proofs/Laws/Waiting).
 unfoldable pub putOf : Queue → Character → Queue
 putOf q c =
     pick (eqb (q .count) 0) (record { count = 1; first = c; second = q .second; third = q .third; waiting = q .waiting })
     (pick (eqb (q .count) 1) (record { count = 2; first = q .first; second = c; third = q .third; waiting = q .waiting })
     (pick (eqb (q .count) 2) (record { count = 3; first = q .first; second = q .second; third = c; waiting = q .waiting })
-    (record { count = 4; first = q .first; second = q .second; third = q .third; waiting = c })))
+    (pick (eqb (q .count) 3) (record { count = 4; first = q .first; second = q .second; third = q .third; waiting = c })
+    q)))
 
 unfoldable pub withoutWaitingOf : Queue → Queue
 withoutWaitingOf q =

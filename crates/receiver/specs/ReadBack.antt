@@ -8,8 +8,8 @@ use Rattle.frame.specs.declared.format.Format.{Format}
 use Rattle.frame.specs.Digits.{cutOf}
 use Rattle.frame.specs.Levels.{beforeStop, levels}
 use Rattle.sampler.specs.declared.character.Character.{Character}
-use Rattle.sampler.specs.declared.sampler.Sampler.{Sampler}
-use Rattle.sampler.specs.declared.sampler.Setting.{Setting}
+use Rattle.sampler.specs.declared.state.Sampler.{Sampler}
+use Rattle.sampler.specs.declared.state.Setting.{Setting}
 use Rattle.sampler.specs.Character.{clean}
 use Rattle.sampler.specs.Lines.{at16, afterLines, arrivals}
 use Rattle.receiver.specs.declared.receiver.Feed.{Feed}

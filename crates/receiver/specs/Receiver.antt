@@ -6,10 +6,11 @@ use Rattle.sampler.specs.declared.character.Marks.{Marks}
 use Rattle.sampler.specs.declared.sampler.Came.{Came}
 use Rattle.sampler.specs.declared.sampler.Came.the-variants.{NoCharacter, Arrival}
 use Rattle.sampler.specs.declared.sampler.Sampled.{Sampled}
-use Rattle.sampler.specs.declared.sampler.Sampler.{Sampler}
-use Rattle.sampler.specs.declared.sampler.Setting.{Setting}
+use Rattle.sampler.specs.declared.state.Sampler.{Sampler}
+use Rattle.sampler.specs.declared.state.Setting.{Setting}
 use Rattle.sampler.specs.Character.{noMarks, orMarks, unmarkedOf}
-use Rattle.sampler.specs.Sampler.{hunting, sampleOf}
+use Rattle.sampler.specs.State.{hunting}
+use Rattle.sampler.specs.Sampler.{sampleOf}
 use Rattle.receiver.specs.declared.queue.Queue.{Queue}
 use Rattle.receiver.specs.declared.receiver.Effect.{Effect}
 use Rattle.receiver.specs.declared.receiver.Effect.the-variants.{NoEffect, Reset, ClearErrors, ClearChange}

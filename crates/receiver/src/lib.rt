@@ -2,9 +2,9 @@
 //
 // The queue moves characters whole: it never looks into one, and never at the sampler. A receiver is
 // the two side by side. One file a topic; specs/ has the definitions of each under the same name.
-pub mod queue;
-pub mod receiver;
-pub mod status;
+mod queue;
+mod receiver;
+mod status;
 
 pub use queue::Queue;
 pub use receiver::Effect;

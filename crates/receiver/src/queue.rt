@@ -1,8 +1,9 @@
 // The queue of three and the waiting place. It moves characters whole: it never looks into one, and
 // never at the sampler.
 use sampler::Character;
-use sampler::no_character;
+use sampler::no_marks;
 ghost use mathlib.Core.Path.{_≡_};
+ghost use Rattle.sampler.specs.Character.{noCharacter};
 ghost use Rattle.receiver.specs.Queue.{emptyQueue, isEmptyOf, isFullOf, oldestOf, waitsOf, putOf, withoutWaitingOf, tookOf, replacedOf};
 
 // Those held, the oldest first: `count` of them, from 0 to 4. The fourth is the one that waits.
@@ -13,6 +14,16 @@ pub struct Queue {
     pub second: Character,
     pub third: Character,
     pub waiting: Character,
+}
+
+// What an unused place holds after a chip reset.
+fn no_character() -> Character
+    ensures { λ r. ⌜ r ≡ noCharacter ⌝ }
+{
+    Character {
+        byte: 0,
+        marks: no_marks(),
+    }
 }
 
 pub fn empty_queue() -> Queue
@@ -75,8 +86,11 @@ pub fn put(queue: Queue, character: Character) -> Queue
         q.third = character;
         return q;
     }
-    q.count = 4;
-    q.waiting = character;
+    if queue.count == 3 {
+        q.count = 4;
+        q.waiting = character;
+        return q;
+    }
     q
 }
 

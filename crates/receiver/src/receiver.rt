@@ -110,8 +110,8 @@ fn start(receiver: Receiver, started: bool) -> Receiver
 {
     let mut r = receiver;
     if started {
-        let q = remove_waiting(receiver.queue);
-        r.queue = q;
+        let rest = remove_waiting(receiver.queue);
+        r.queue = rest;
         r.overrun = receiver.overrun | one_waits(receiver.queue);
         return r;
     }
@@ -167,12 +167,12 @@ fn drop_character(receiver: Receiver) -> Receiver
 fn reset(receiver: Receiver) -> Receiver
     ensures { λ r. ⌜ r ≡ resetOf receiver ⌝ }
 {
-    let mut r = receiver;
+    let mut emptied = receiver;
     let sampler = drop_assembly();
     let queue = empty_queue();
-    r.sampler = sampler;
-    r.queue = queue;
-    r
+    emptied.sampler = sampler;
+    emptied.queue = queue;
+    emptied
 }
 
 // "4 clear overrun, block sums and the top character's marks"

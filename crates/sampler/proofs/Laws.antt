@@ -2,3 +2,4 @@
 pub mod Assembly
 pub mod Heard
 pub mod Ranges
+pub mod Room

@@ -19,7 +19,7 @@ clean x = record { byte = x; marks = noMarks }
 abbrev pub unmarkedOf : Character → Character
 unmarkedOf c = clean (c .byte)
 
--- what a place holds that was never used since a chip reset
+-- what an unused place holds after a chip reset
 abbrev pub noCharacter : Character
 noCharacter = clean 0
 

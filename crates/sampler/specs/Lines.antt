@@ -7,9 +7,10 @@ use Rattle.sampler.specs.declared.character.Character.{Character}
 use Rattle.sampler.specs.declared.sampler.Came.{Came}
 use Rattle.sampler.specs.declared.sampler.Came.the-variants.{NoCharacter, Arrival}
 use Rattle.sampler.specs.declared.sampler.Sampled.{Sampled}
-use Rattle.sampler.specs.declared.sampler.Sampler.{Sampler}
-use Rattle.sampler.specs.declared.sampler.Setting.{Setting}
-use Rattle.sampler.specs.Sampler.{hunting, still, sampleOf}
+use Rattle.sampler.specs.declared.state.Sampler.{Sampler}
+use Rattle.sampler.specs.declared.state.Setting.{Setting}
+use Rattle.sampler.specs.State.{hunting}
+use Rattle.sampler.specs.Sampler.{still, sampleOf}
 
 -- a format with 16X pulses
 abbrev pub at16 : Format → Setting

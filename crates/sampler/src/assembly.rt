@@ -47,7 +47,8 @@ fn data_of(format: Format, value: u16) -> u8
 fn parity_wrong(format: Format, value: u16) -> bool
     ensures { λ r. ⌜ r ≡ parityWrongOf format value ⌝ }
 {
-    if frame::has_parity(format) {
+    let checked = frame::has_parity(format);
+    if checked {
         let right = frame::parity_bit(format, data_of(format, value));
         if value / data_weight(format) % 2 == 1 {
             return !right;

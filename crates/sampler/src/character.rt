@@ -1,6 +1,6 @@
 // A received character and its error marks.
 ghost use mathlib.Core.Path.{_≡_};
-ghost use Rattle.sampler.specs.Character.{noMarks, orMarks, unmarkedOf, noCharacter, breakCharacter};
+ghost use Rattle.sampler.specs.Character.{noMarks, orMarks, unmarkedOf, breakCharacter};
 
 // "break, framing, parity": the marks that SR bits 7 to 5 show.
 #[repr(C)]
@@ -42,19 +42,10 @@ pub fn or_marks(sums: Marks, marks: Marks) -> Marks
 pub fn unmarked(character: Character) -> Character
     ensures { λ r. ⌜ r ≡ unmarkedOf character ⌝ }
 {
+    let cleared = no_marks();
     Character {
         byte: character.byte,
-        marks: no_marks(),
-    }
-}
-
-// What a place holds that was never used since a chip reset.
-pub fn no_character() -> Character
-    ensures { λ r. ⌜ r ≡ noCharacter ⌝ }
-{
-    Character {
-        byte: 0,
-        marks: no_marks(),
+        marks: cleared,
     }
 }
 
@@ -62,12 +53,10 @@ pub fn no_character() -> Character
 pub fn break_character() -> Character
     ensures { λ r. ⌜ r ≡ breakCharacter ⌝ }
 {
+    let mut marks = no_marks();
+    marks.broken = true;
     Character {
         byte: 0,
-        marks: Marks {
-            broken: true,
-            framing: false,
-            parity: false,
-        },
+        marks: marks,
     }
 }

@@ -4,52 +4,22 @@ use crate::assembly::character_of;
 use crate::assembly::samples_before_stop;
 use crate::character::Character;
 use crate::character::break_character;
+use crate::state::AFTER_LOW_STOP;
+use crate::state::ASSEMBLING;
+use crate::state::IN_BREAK;
+use crate::state::STARTING;
+use crate::state::Sampler;
+use crate::state::Setting;
+use crate::state::after_stop;
+use crate::state::assembling_at;
+use crate::state::empty_at;
+use crate::state::gap;
+use crate::state::hunting_after;
+use crate::state::starting_at;
 use frame::Bits;
-use frame::Format;
 use frame::Pulses;
 ghost use mathlib.Core.Path.{_≡_};
-ghost use mathlib.Core.Bool.{false};
-ghost use Rattle.sampler.specs.Sampler.{noSetting, emptyAt, hunting, starting, assembling, still, gapOf, confirmed, lowAt, hunted, started};
-ghost use Rattle.sampler.specs.Sampler.{afterStop, arrived, finished, sampled, assembled, followed, ended, waited, sampleOf};
-
-// What a pulse of the receiver's clock carries beside the level: the format, and 16X or 1X, as the
-// registers stand.
-#[repr(C)]
-pub struct Setting {
-    pub format: Format,
-    // 16X rather than 1X
-    pub sixteen: bool,
-}
-
-// What the sampler is doing, its `phase`. Any other number hunts.
-const HUNTING: u8 = 0;
-
-// a low was seen at p and is looked at again at p+8
-const STARTING: u8 = 1;
-
-// a start was confirmed: the character is being put together
-const ASSEMBLING: u8 = 2;
-
-// the 8 pulses, or the one, next to a low stop
-const AFTER_LOW_STOP: u8 = 3;
-
-// the wait for a break's end
-const IN_BREAK: u8 = 4;
-
-#[repr(C)]
-pub struct Sampler {
-    pub phase: u8,
-    // hunting: the last sample was high
-    pub high: bool,
-    // pulses still to pass before the one that is looked at, so 0 means the next one is
-    pub left: Pulses,
-    // taken at the low pulse p
-    pub setting: Setting,
-    // samples taken since the confirmed start
-    pub taken: Bits,
-    // those samples as a number, the first one lowest
-    pub value: u16,
-}
+ghost use Rattle.sampler.specs.Sampler.{still, confirmed, lowAt, hunted, started, arrived, finished, sampled, assembled, followed, ended, waited, sampleOf};
 
 // A character that arrived, if any.
 pub enum Came {
@@ -67,45 +37,6 @@ pub struct Sampled {
     pub change: bool,
 }
 
-// What stands for a setting while none is taken: that of a chip reset's registers.
-fn no_setting() -> Setting
-    ensures { λ r. ⌜ r ≡ noSetting ⌝ }
-{
-    Setting {
-        format: frame::format_of(0),
-        sixteen: true,
-    }
-}
-
-// A sampler that has nothing of a character yet.
-fn empty_at(phase: u8, high: bool, left: Pulses) -> Sampler
-    ensures { λ r. ⌜ r ≡ emptyAt phase high left ⌝ }
-{
-    Sampler {
-        phase: phase,
-        high: high,
-        left: left,
-        setting: no_setting(),
-        taken: Bits(0),
-        value: 0,
-    }
-}
-
-fn hunting_after(high: bool) -> Sampler
-    ensures { λ r. ⌜ r ≡ hunting high ⌝ }
-{
-    empty_at(HUNTING, high, Pulses(0))
-}
-
-// "Disable drops the character being put together and ends the wait for a break's end, no more." "A
-// receiver just enabled must sample a high before a low counts": both leave a sampler that hunts and
-// has seen no high.
-pub fn drop_assembly() -> Sampler
-    ensures { λ r. ⌜ r ≡ hunting false ⌝ }
-{
-    hunting_after(false)
-}
-
 // No start, no character, no break change.
 fn quiet(next: Sampler) -> Sampled
     ensures { λ r. ⌜ r ≡ still next ⌝ }
@@ -116,16 +47,6 @@ fn quiet(next: Sampler) -> Sampled
         came: Came::NoCharacter,
         change: false,
     }
-}
-
-// "Then one sample each 16 pulses"; "At 1X each pulse is a sample": the pulses passed over.
-fn gap(sixteen: bool) -> Pulses
-    ensures { λ r. ⌜ r ≡ gapOf sixteen ⌝ }
-{
-    if sixteen {
-        return Pulses(15);
-    }
-    Pulses(0)
 }
 
 // A confirmed start.
@@ -144,20 +65,6 @@ fn confirm_start(setting: Setting) -> Sampled
         started: true,
         came: Came::NoCharacter,
         change: false,
-    }
-}
-
-// A sampler between the low at p and the pulse p+8.
-fn starting_at(setting: Setting, left: Pulses) -> Sampler
-    ensures { λ r. ⌜ r ≡ starting setting left ⌝ }
-{
-    Sampler {
-        phase: STARTING,
-        high: false,
-        left: left,
-        setting: setting,
-        taken: Bits(0),
-        value: 0,
     }
 }
 
@@ -190,25 +97,12 @@ fn start(sampler: Sampler, level: bool) -> Sampled
 {
     if sampler.left.0 == 0 {
         if level {
-            return quiet(hunting_after(true));
+            let again = hunting_after(true);
+            return quiet(again);
         }
         return confirm_start(sampler.setting);
     }
     quiet(starting_at(sampler.setting, Pulses(sampler.left.0 - 1)))
-}
-
-// What a character leaves behind: after a high stop the hunt; after a low one the 8 pulses next to
-// it at 16X, and at 1X just the next, "What follows a low stop goes by that character's 16X or 1X".
-fn after_stop(sixteen: bool, stop: bool) -> Sampler
-    ensures { λ r. ⌜ r ≡ afterStop sixteen stop ⌝ }
-{
-    if stop {
-        return hunting_after(true);
-    }
-    if sixteen {
-        return empty_at(AFTER_LOW_STOP, false, Pulses(7));
-    }
-    empty_at(AFTER_LOW_STOP, false, Pulses(0))
 }
 
 // "the character arrives at the first stop sample"
@@ -240,20 +134,6 @@ fn finish(setting: Setting, value: u16, stop: bool) -> Sampled
         };
     }
     arrive(setting, value, false)
-}
-
-// A sampler in which a character is being put together.
-fn assembling_at(setting: Setting, left: Pulses, taken: Bits, value: u16) -> Sampler
-    ensures { λ r. ⌜ r ≡ assembling setting left taken value ⌝ }
-{
-    Sampler {
-        phase: ASSEMBLING,
-        high: false,
-        left: left,
-        setting: setting,
-        taken: taken,
-        value: value,
-    }
 }
 
 // A sample: one bit more above those taken, or the stop.

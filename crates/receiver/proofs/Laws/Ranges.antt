@@ -11,7 +11,7 @@ use Rattle.sampler.specs.declared.character.Character.{Character}
 use Rattle.sampler.specs.declared.sampler.Came.{Came}
 use Rattle.sampler.specs.declared.sampler.Came.the-variants.{NoCharacter, Arrival}
 use Rattle.sampler.specs.declared.sampler.Sampled.{Sampled}
-use Rattle.sampler.specs.declared.sampler.Setting.{Setting}
+use Rattle.sampler.specs.declared.state.Setting.{Setting}
 use Rattle.sampler.specs.Sampler.{sampleOf}
 use Rattle.sampler.specs.Sound.{settingInRange, samplerInRange}
 use Rattle.sampler.proofs.Laws.Ranges.{sample-keeps, hunting-keeps}
@@ -37,12 +37,12 @@ record Inside (r : Receiver) : Type 0 where
 abbrev Four : Queue → Type 0
 Four q = q .count ≤ 4
 
-put-four : (q : Queue) (c : Character) → Four (putOf q c)
+put-four : (q : Queue) (c : Character) → Four q → Four (putOf q c)
 unfolding putOf
-put-four q c =
+put-four q c h =
     pick-all Four (eqb (q .count) 0) _ _ (omega arith)
     (pick-all Four (eqb (q .count) 1) _ _ (omega arith)
-    (pick-all Four (eqb (q .count) 2) _ _ (omega arith) (omega arith)))
+    (pick-all Four (eqb (q .count) 2) _ _ (omega arith) (pick-all Four (eqb (q .count) 3) _ _ (omega arith) h)))
 
 without-waiting-four : (q : Queue) → Four q → Four (withoutWaitingOf q)
 unfolding withoutWaitingOf
@@ -61,7 +61,7 @@ started-inside r t h = pick-all Inside t _ _ (record { sampler = h .sampler; que
 arrived-inside : (r : Receiver) (o : Came) → Inside r → Inside (arrivedOf r o)
 unfolding arrivedOf enteredOf
 arrived-inside r NoCharacter h = h
-arrived-inside r (Arrival c) h = record { sampler = h .sampler; queue = put-four (r .queue) c }
+arrived-inside r (Arrival c) h = record { sampler = h .sampler; queue = put-four (r .queue) c (h .queue) }
 
 pulsed-inside : (r : Receiver) (level : Bool) (f : Setting) → Inside r → settingInRange f ≡ true → Inside (pulsedOf r level f)
 unfolding pulsedOf

@@ -18,11 +18,12 @@ use Rattle.frame.specs.Levels.{beforeStop, spread, levels}
 use Rattle.sampler.specs.declared.character.Character.{Character}
 use Rattle.sampler.specs.declared.sampler.Came.{Came}
 use Rattle.sampler.specs.declared.sampler.Came.the-variants.{NoCharacter, Arrival}
-use Rattle.sampler.specs.declared.sampler.Sampler.{Sampler}
-use Rattle.sampler.specs.declared.sampler.Setting.{Setting}
+use Rattle.sampler.specs.declared.state.Sampler.{Sampler}
+use Rattle.sampler.specs.declared.state.Setting.{Setting}
 use Rattle.sampler.specs.Character.{clean}
 use Rattle.sampler.specs.Assembly.{samplesOf, withSample, characterOf}
-use Rattle.sampler.specs.Sampler.{hunting, assembling, gapOf, lowAt, hunted, started, afterStop, finished, sampled, assembled, sampleOf}
+use Rattle.sampler.specs.State.{hunting, assembling, gapOf, afterStop}
+use Rattle.sampler.specs.Sampler.{lowAt, hunted, started, finished, sampled, assembled, sampleOf}
 use Rattle.sampler.specs.Lines.{at16}
 use Rattle.sampler.proofs.Laws.Assembly.{samples-are, with-sample-small, with-sample-adds, sampled-clean}
 

@@ -14,10 +14,11 @@ use Rattle.frame.specs.Pick.{pick}
 use Rattle.frame.specs.Format.{formatOf}
 use Rattle.frame.proofs.Laws.Pick.{pick-all}
 use Rattle.sampler.specs.declared.sampler.Sampled.{Sampled}
-use Rattle.sampler.specs.declared.sampler.Sampler.{Sampler}
-use Rattle.sampler.specs.declared.sampler.Setting.{Setting}
+use Rattle.sampler.specs.declared.state.Sampler.{Sampler}
+use Rattle.sampler.specs.declared.state.Setting.{Setting}
 use Rattle.sampler.specs.Assembly.{samplesOf, withSample}
-use Rattle.sampler.specs.Sampler.{emptyAt, hunting, starting, assembling, confirmed, gapOf, lowAt, hunted, started, afterStop, finished, sampled, assembled, followed, waited, sampleOf}
+use Rattle.sampler.specs.State.{emptyAt, hunting, starting, assembling, gapOf, afterStop}
+use Rattle.sampler.specs.Sampler.{confirmed, lowAt, hunted, started, finished, sampled, assembled, followed, waited, sampleOf}
 use Rattle.sampler.specs.Sound.{settingInRange, samplerInRange}
 use Rattle.sampler.proofs.Laws.Assembly.{samples-most, with-sample-small}
 

@@ -2,7 +2,7 @@
 use lib.Pow.{pow-pos}
 use borrow.Author.Needs.{needs}
 use Rattle.frame.proofs.Laws.{steps}
-use Rattle.sampler.specs.Assembly.{dataWidthOf, parityWrongOf}
+use Rattle.sampler.specs.Assembly.{parityWrongOf}
 use Rattle.sampler.proofs.assembly.parity_wrong.Statement.{statement}
 use Rattle.sampler.proofs.assembly.parity_wrong.Tie as tie
 
@@ -19,7 +19,7 @@ data-weight-requires : tie.Need-data-weight-requires
 data-weight-requires c κs = search needs
 
 div-if2 : tie.Need-div-if2
-div-if2 c = rw (c .data-weight .ensures) (pow-pos (dataWidthOf (c .before .before .before .before .before .args .format) .0))
+div-if2 c = rw (c .data-weight .ensures) (pow-pos _)
 
 returns : tie.Need-returns
 unfolding parityWrongOf

@@ -1,9 +1,9 @@
 -- `after_stop` meets its contract: each way through the tests is the definition's, with the callee's sampler. Assumes nothing.
 use borrow.Author.Needs.{needs}
 use Rattle.frame.proofs.Laws.{steps}
-use Rattle.sampler.specs.Sampler.{afterStop}
-use Rattle.sampler.proofs.sampler.after_stop.Statement.{statement}
-use Rattle.sampler.proofs.sampler.after_stop.Tie as tie
+use Rattle.sampler.specs.State.{afterStop}
+use Rattle.sampler.proofs.state.after_stop.Statement.{statement}
+use Rattle.sampler.proofs.state.after_stop.Tie as tie
 
 hunting-after-requires : tie.Need-hunting-after-requires
 hunting-after-requires c κs = search needs

@@ -1,8 +1,8 @@
 -- `gap` meets its contract: the two answers are the definition's. Assumes nothing.
 use Rattle.frame.proofs.Laws.{steps}
-use Rattle.sampler.specs.Sampler.{gapOf}
-use Rattle.sampler.proofs.sampler.gap.Statement.{statement}
-use Rattle.sampler.proofs.sampler.gap.Tie as tie
+use Rattle.sampler.specs.State.{gapOf}
+use Rattle.sampler.proofs.state.gap.Statement.{statement}
+use Rattle.sampler.proofs.state.gap.Tie as tie
 
 returns : tie.Need-returns
 unfolding gapOf

@@ -1,7 +1,7 @@
 -- `no_setting` meets its contract: the format is the callee's. Assumes nothing.
 use borrow.Author.Needs.{needs}
-use Rattle.sampler.proofs.sampler.no_setting.Statement.{statement}
-use Rattle.sampler.proofs.sampler.no_setting.Tie as tie
+use Rattle.sampler.proofs.state.no_setting.Statement.{statement}
+use Rattle.sampler.proofs.state.no_setting.Tie as tie
 
 format-of-requires : tie.Need-format-of-requires
 format-of-requires c κs = search needs

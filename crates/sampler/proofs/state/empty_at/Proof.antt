@@ -1,7 +1,7 @@
 -- `empty_at` meets its contract: the setting is the callee's. Assumes nothing.
 use borrow.Author.Needs.{needs}
-use Rattle.sampler.proofs.sampler.empty_at.Statement.{statement}
-use Rattle.sampler.proofs.sampler.empty_at.Tie as tie
+use Rattle.sampler.proofs.state.empty_at.Statement.{statement}
+use Rattle.sampler.proofs.state.empty_at.Tie as tie
 
 no-setting-requires : tie.Need-no-setting-requires
 no-setting-requires c κs = search needs

@@ -1,0 +1,54 @@
+-- `run` is safe and ends: the steps still to take grow fewer. Assumes nothing.
+use Prim.Native.Nat.{_≤_, _-_}
+use borrow.Author.Needs.{needs}
+use Rattle.receiver_runs.proofs.run.Statement.{statement}
+use Rattle.receiver_runs.proofs.run.Tie as tie
+
+abbrev Inv-loop : tie.InvT-loop
+Inv-loop seed d₀ i₀ d i = i ≤ 400
+
+abbrev μ-loop : tie.MeasureT-loop
+μ-loop seed d₀ i₀ d i = 400 - i
+
+fresh-receiver-requires : tie.Need-fresh-receiver-requires Inv-loop μ-loop
+fresh-receiver-requires c κs = search needs
+
+mul-t6 : tie.Need-mul-t6 Inv-loop μ-loop
+mul-t6 c = search needs
+
+add-t7 : tie.Need-add-t7 Inv-loop μ-loop
+add-t7 c = search needs
+
+loop-holds : tie.Need-loop-holds Inv-loop μ-loop
+loop-holds c = search needs
+
+step-requires : tie.Need-step-requires Inv-loop μ-loop
+step-requires c κs = search needs
+
+add-i : tie.Need-add-i Inv-loop μ-loop
+add-i c = search needs
+
+loop-less : tie.Need-loop-less Inv-loop μ-loop
+loop-less c = search needs
+
+loop-again : tie.Need-loop-again Inv-loop μ-loop
+loop-again c = search needs
+
+returns : tie.Need-returns Inv-loop μ-loop
+returns c = search needs
+
+pub run-spec : {M : Type 1} → statement M
+run-spec =
+    tie.close
+    (tie.spec
+    Inv-loop
+    μ-loop
+    fresh-receiver-requires
+    mul-t6
+    add-t7
+    loop-holds
+    step-requires
+    add-i
+    loop-less
+    loop-again
+    returns)
