@@ -20,19 +20,19 @@ use Rattle.sampler.specs.Sampler.{sampleOf}
 use Rattle.sampler.proofs.Laws.Room.{most-four, grown, Roomy, room-sample}
 use Rattle.receiver.specs.declared.queue.Queue.{Queue}
 use Rattle.receiver.specs.declared.receiver.Effect.{Effect}
-use Rattle.receiver.specs.declared.receiver.Effect.the-variants.{NoEffect, Reset, ClearErrors, ClearChange}
+use Rattle.receiver.specs.declared.receiver.Effect.the-variants.{NoEffect, Reset, ClearErrors, ClearBreakChange}
 use Rattle.receiver.specs.declared.receiver.Fed.{Fed}
 use Rattle.receiver.specs.declared.receiver.Feed.{Feed}
 use Rattle.receiver.specs.declared.receiver.Feed.the-variants.{Nothing, Pulse, Command, Read, ChipReset}
 use Rattle.receiver.specs.declared.receiver.Receiver.{Receiver}
-use Rattle.receiver.specs.declared.receiver.Turn.{Turn}
-use Rattle.receiver.specs.declared.receiver.Turn.the-variants.{Stays, TurnsOn, TurnsOff}
-use Rattle.receiver.specs.Delivery.{Entry, starts, enters, overruns, Ledger, opened, pulseWritten, effectWritten, turnWritten, written, ledgerFrom, ledger, asArrived, after, given, reads, linesOf, effectLines, turnLines, linesOver, Delivers}
+use Rattle.receiver.specs.declared.receiver.Enabling.{Enabling}
+use Rattle.receiver.specs.declared.receiver.Enabling.the-variants.{Stays, Enables, Disables}
+use Rattle.receiver.specs.Delivery.{Entry, starts, enters, overruns, Ledger, opened, pulseWritten, effectWritten, enablingWritten, written, ledgerFrom, ledger, asArrived, after, given, reads, linesOf, effectLines, enablingLines, linesOver, Delivers}
 use Rattle.receiver.specs.Delivery.Entry.{entry}
 use Rattle.receiver.specs.Delivery.Fate.{Held, WasRead, Overrun}
 use Rattle.receiver.specs.Queue.{heldOf, replaced, took, isEmptyOf, oldestOf, replacedOf}
-use Rattle.receiver.specs.Receiver.{freshReceiver, oldestMarks, heardOf, startedOf, enteredOf, arrivedOf, pulsedOf, effectOf, turnedOf, oldestRead, readOf, fedOf}
-use Rattle.receiver.specs.Status.{shownMarks}
+use Rattle.receiver.specs.Receiver.{freshReceiver, oldestMarks, heardOf, startedOf, enteredOf, arrivedOf, pulsedOf, effectOf, enablingOf, oldestRead, readOf, fedOf}
+use Rattle.receiver.specs.Status.{shownMarks, statusOf}
 use Rattle.receiver.proofs.Laws.Ledger.{Tells, tells-fates, firstMarks, tells-marks, tells-entered, tells-read, tells-dropped, firstCleared, tells-cleared, tells-overrun, overruns-grow, overruns-entered, arrived-meets, arrived-dropped, arrived-cleared}
 use Rattle.receiver.proofs.Laws.Ledger.Tells.{nothing}
 use Rattle.receiver.proofs.Laws.Queue.{held-length, held-put, held-without-waiting, waits-held, held-took, held-replaced, held-empty, is-empty-held, oldest-held}
@@ -56,11 +56,11 @@ cleared-held q = held-replaced q (unmarkedOf (oldestOf q)) ∙ go (isEmptyOf q) 
     go false e = rw (oldest-held q e)
 
 -- what a read gives is the oldest itself, byte and marks
-given-held : (r : Receiver) → given fedOf r Read ≡ take 1 (heldOf (r .queue))
+pub given-held : (r : Receiver) → given fedOf statusOf r Read ≡ take 1 (heldOf (r .queue))
 unfolding given fedOf readOf shownMarks oldestMarks pick
 given-held r = go (isEmptyOf (r .queue)) refl
   where
-    go : (t : Bool) → isEmptyOf (r .queue) ≡ t → given fedOf r Read ≡ take 1 (heldOf (r .queue))
+    go : (t : Bool) → isEmptyOf (r .queue) ≡ t → given fedOf statusOf r Read ≡ take 1 (heldOf (r .queue))
     go true e = rw (e, is-empty-held (r .queue) .0 e)
     go false e = rw (e, oldest-held (r .queue) e)
 
@@ -129,16 +129,16 @@ unfolding effectOf hears
 in-step-effect l r rs NoEffect h = h
 in-step-effect l r rs Reset h = record { sampler = refl; tells = rw held-empty (tells-dropped (h .tells)); overran = h .overran }
 in-step-effect l r rs ClearErrors h = record { sampler = h .sampler; tells = rw cleared-held (tells-cleared (h .tells)); overran = refl }
-in-step-effect l r rs ClearChange h = record { sampler = h .sampler; tells = h .tells; overran = h .overran }
+in-step-effect l r rs ClearBreakChange h = record { sampler = h .sampler; tells = h .tells; overran = h .overran }
 
-in-step-turn : (l : Ledger) (r : Receiver) (rs : List Character) (t : Turn) → InStep l r rs → InStep (turnWritten l t) (turnedOf r t) rs
-unfolding turnedOf hears
-in-step-turn l r rs Stays h = h
-in-step-turn l r rs TurnsOn h = record { sampler = refl; tells = h .tells; overran = h .overran }
-in-step-turn l r rs TurnsOff h = record { sampler = refl; tells = h .tells; overran = h .overran }
+in-step-enabling : (l : Ledger) (r : Receiver) (rs : List Character) (t : Enabling) → InStep l r rs → InStep (enablingWritten l t) (enablingOf r t) rs
+unfolding enablingOf hears
+in-step-enabling l r rs Stays h = h
+in-step-enabling l r rs Enables h = record { sampler = refl; tells = h .tells; overran = h .overran }
+in-step-enabling l r rs Disables h = record { sampler = refl; tells = h .tells; overran = h .overran }
 
 in-step-read : (l : Ledger) (r : Receiver) (rs : List Character) → r .queue .count ≤ 4 → InStep l r rs
-    → InStep (written l Read) (readOf r .receiver) (rs ++ given fedOf r Read)
+    → InStep (written l Read) (readOf r .receiver) (rs ++ given fedOf statusOf r Read)
 unfolding written readOf oldestRead
 in-step-read l r rs four h =
     record {
@@ -148,27 +148,27 @@ in-step-read l r rs four h =
     }
 
 in-step-fed : (l : Ledger) (r : Receiver) (rs : List Character) (e : Feed) → Room r → InStep l r rs
-    → InStep (written l e) (fedOf r e .receiver) (rs ++ given fedOf r e)
+    → InStep (written l e) (fedOf r e .receiver) (rs ++ given fedOf statusOf r e)
 unfolding written fedOf given hears pulsedOf
 in-step-fed l r rs Nothing p h = rw append-nil h
 in-step-fed l r rs (Pulse level f) p h =
     rw (append-nil, h .sampler)
     (in-step-answered l r rs (sampleOf (r .sampler) level f) (four-counted r p) (room-sample (r .queue .count) (r .sampler) level f p) h)
-in-step-fed l r rs (Command e t) p h = rw append-nil (in-step-turn (effectWritten l e) (effectOf r e) rs t (in-step-effect l r rs e h))
+in-step-fed l r rs (Command e t) p h = rw append-nil (in-step-enabling (effectWritten l e) (effectOf r e) rs t (in-step-effect l r rs e h))
 in-step-fed l r rs Read p h = in-step-read l r rs (four-counted r p) h
 in-step-fed l r rs ChipReset p h = rw append-nil (record { sampler = refl; tells = rw held-empty (tells-dropped (h .tells)); overran = refl })
 
 in-step-after : (l : Ledger) (r : Receiver) (rs : List Character) (es : List Feed) → Room r → InStep l r rs
-    → InStep (ledgerFrom l es) (after fedOf r es) (rs ++ reads fedOf r es)
+    → InStep (ledgerFrom l es) (after fedOf r es) (rs ++ reads fedOf statusOf r es)
 unfolding ledgerFrom after reads
 in-step-after l r rs [] p h = rw append-nil h
 in-step-after l r rs (e ∷ es) p h =
-    rw (← append-assoc) (in-step-after (written l e) (fedOf r e .receiver) (rs ++ given fedOf r e) es (fed-room r e p) (in-step-fed l r rs e p h))
+    rw (← append-assoc) (in-step-after (written l e) (fedOf r e .receiver) (rs ++ given fedOf statusOf r e) es (fed-room r e p) (in-step-fed l r rs e p h))
 
-four-after : (r : Receiver) (es : List Feed) → Room r → length (heldOf (after fedOf r es .queue)) ≤ 4
+room-after : (r : Receiver) (es : List Feed) → Room r → Room (after fedOf r es)
 unfolding after
-four-after r [] p = four-held (r .queue) (four-counted r p)
-four-after r (e ∷ es) p = four-after (fedOf r e .receiver) es (fed-room r e p)
+room-after r [] p = p
+room-after r (e ∷ es) p = room-after (fedOf r e .receiver) es (fed-room r e p)
 
 -- ---- the characters that arrived ----
 
@@ -178,14 +178,14 @@ unfolding arrivals hears
 all-effect l NoEffect xs = refl
 all-effect l Reset xs = rw (arrived-dropped (l .entries))
 all-effect l ClearErrors xs = rw (arrived-cleared (l .entries))
-all-effect l ClearChange xs = refl
+all-effect l ClearBreakChange xs = refl
 
-all-turn : (l : Ledger) (t : Turn) (xs : List Line) → map asArrived (l .entries) ++ arrivals (l .sampler) (turnLines t ++ xs)
-    ≡ map asArrived (turnWritten l t .entries) ++ arrivals (turnWritten l t .sampler) xs
+all-enabling : (l : Ledger) (t : Enabling) (xs : List Line) → map asArrived (l .entries) ++ arrivals (l .sampler) (enablingLines t ++ xs)
+    ≡ map asArrived (enablingWritten l t .entries) ++ arrivals (enablingWritten l t .sampler) xs
 unfolding arrivals hears
-all-turn l Stays xs = refl
-all-turn l TurnsOn xs = refl
-all-turn l TurnsOff xs = refl
+all-enabling l Stays xs = refl
+all-enabling l Enables xs = refl
+all-enabling l Disables xs = refl
 
 all-started : (t : Bool) (l : List Entry) → map asArrived (starts t l) ≡ map asArrived l
 all-started true l = arrived-meets 3 Overrun l
@@ -200,7 +200,7 @@ all-fed : (l : Ledger) (e : Feed) (xs : List Line) → map asArrived (l .entries
 unfolding written arrivals hears
 all-fed l Nothing xs = refl
 all-fed l (Pulse level f) xs = rw (all-came, all-started, append-assoc)
-all-fed l (Command e t) xs = rw append-assoc (all-effect l e (turnLines t ++ xs) ∙ all-turn (effectWritten l e) t xs)
+all-fed l (Command e t) xs = rw append-assoc (all-effect l e (enablingLines t ++ xs) ∙ all-enabling (effectWritten l e) t xs)
 all-fed l Read xs = rw (arrived-meets 0 WasRead (l .entries))
 all-fed l ChipReset xs = rw (arrived-dropped (l .entries))
 
@@ -210,15 +210,15 @@ unfolding ledgerFrom linesOver arrivals
 all-after l [] = append-nil _
 all-after l (e ∷ es) = all-fed l e (linesOver es) ∙ all-after (written l e) es
 
-pub delivery : Delivers fedOf
+pub delivery : Delivers fedOf statusOf
 unfolding fedOf
 delivery r es =
-    let h : InStep (ledger es) (after fedOf freshReceiver es) (reads fedOf freshReceiver es) =
+    let h : InStep (ledger es) (after fedOf freshReceiver es) (reads fedOf statusOf freshReceiver es) =
     in-step-after opened freshReceiver [] es (omega arith) start in
     record {
       all = sym (all-after opened es);
       fates = tells-fates (h .tells);
-      four = λ k. four-after freshReceiver (take k es) (omega arith);
+      four = λ k. four-counted (after fedOf freshReceiver (take k es)) (room-after freshReceiver (take k es) (omega arith));
       overrun = λ block. sym (h .overran);
       marks = shown-held (after fedOf freshReceiver es) ∙ sym (tells-marks (h .tells));
     }

@@ -1,5 +1,6 @@
 -- The laws that the crates above cite, and the theorems.
 pub mod Laws
 pub mod Delivery
+pub mod Examples
 pub mod ReadBack
 pub mod Wrong

@@ -2,7 +2,7 @@
 -- arrives, and what the queue comes to hold, follow from what is heard. Assumes nothing.
 use Prim.Native.Nat.{ℕ, zero, suc, _≤_}
 use mathlib.Core.Path.{_≡_, refl, sym, ap, _∙_}
-use mathlib.Core.Bool.{Bool, true, false}
+use mathlib.Core.Bool.{Bool, true, false, or-true, or-false}
 use mathlib.Core.List.{List, [], _∷_, _++_, append-assoc}
 use native.Mathlib.Omega.{arith}
 use lib.ListN.{length, take}
@@ -24,15 +24,17 @@ use Rattle.sampler.specs.Character.{clean}
 use Rattle.sampler.specs.Lines.{at16, Line, hears, listOf, afterLines, arrivals}
 use Rattle.sampler.specs.State.{hunting}
 use Rattle.sampler.specs.Sampler.{hunted, sampleOf}
-use Rattle.sampler.proofs.Laws.Heard.{Said, begun, coming, heard, reached, Ran, hears-frame}
-use Rattle.sampler.proofs.Laws.Heard.Said.{began, came}
+use Rattle.sampler.proofs.Laws.Heard.{Said, changing, begun, coming, heard, reached, Ran, hears-frame}
+use Rattle.sampler.proofs.Laws.Heard.Said.{changes, began, came}
 use Rattle.receiver.specs.declared.queue.Queue.{Queue}
 use Rattle.receiver.specs.declared.receiver.Feed.{Feed}
 use Rattle.receiver.specs.declared.receiver.Receiver.{Receiver}
 use Rattle.receiver.specs.Delivery.{linesOf, linesOver, after}
 use Rattle.receiver.specs.Queue.{heldOf, putOf, withoutWaitingOf}
 use Rattle.receiver.specs.ReadBack.{pulses, sent, sentAll, Idle, ReadBack, ReadBackAll}
-use Rattle.receiver.specs.Receiver.{heardOf, startedOf, enteredOf, arrivedOf, pulsedOf, fedOf}
+use Rattle.receiver.specs.Receiver.{withSampler, withChange, heardOf, startedOf, enteredOf, arrivedOf, pulsedOf, fedOf}
+use Rattle.receiver.proofs.Laws.Waiting.{answered-sampler}
+use Rattle.receiver.proofs.Delivery.{given-held}
 
 -- ---- an idle sampler is at its first pulse as one that just heard a high ----
 
@@ -49,68 +51,76 @@ idle-hears : (f : Format) (n x : ℕ) (s : Sampler) → f .width .0 ≤ 8 → 9 
 unfolding levels spread beforeStop
 idle-hears f n x s w h i = ran-idle i (hears-frame f n x w h)
 
--- ---- over pulses, what the sampler hears arrives, and the queue follows it ----
+-- ---- over pulses, what the sampler says arrives, and the receiver follows it ----
 
 abbrev arriving : List Said → List Character
 arriving [] = []
+arriving (changes ∷ l) = arriving l
 arriving (began ∷ l) = arriving l
 arriving (came c ∷ l) = c ∷ arriving l
-
-abbrev plays : List Said → Queue → Queue
-plays [] q = q
-plays (began ∷ l) q = plays l (withoutWaitingOf q)
-plays (came c ∷ l) q = plays l (putOf q c)
 
 arrivals-heard : (f : Setting) (s : Sampler) (ls : List Bool) → arrivals s (linesOver (pulses f ls)) ≡ arriving (heard f s ls)
 unfolding arrivals linesOver hears heard
 arrivals-heard f s [] = refl
-arrivals-heard f s (b ∷ ls) = rw (arrivals-heard f (sampleOf s b f .next) ls) (said (sampleOf s b f .started) (sampleOf s b f .came) _)
+arrivals-heard f s (b ∷ ls) =
+    rw (arrivals-heard f (sampleOf s b f .next) ls) (said (sampleOf s b f .change) (sampleOf s b f .started) (sampleOf s b f .came) _)
   where
-    said : (t : Bool) (o : Came) (l : List Said) → listOf o ++ arriving l ≡ arriving (begun t ++ (coming o ++ l))
-    said true NoCharacter l = refl
-    said true (Arrival c) l = refl
-    said false NoCharacter l = refl
-    said false (Arrival c) l = refl
+    coming-first : (o : Came) (l : List Said) → listOf o ++ arriving l ≡ arriving (coming o ++ l)
+    coming-first NoCharacter l = refl
+    coming-first (Arrival c) l = refl
+
+    said : (u t : Bool) (o : Came) (l : List Said) → listOf o ++ arriving l ≡ arriving (changing u ++ (begun t ++ (coming o ++ l)))
+    said true true o l = coming-first o l
+    said true false o l = coming-first o l
+    said false true o l = coming-first o l
+    said false false o l = coming-first o l
 
 lines-reached : (f : Setting) (s : Sampler) (ls : List Bool) → afterLines s (linesOver (pulses f ls)) ≡ reached f s ls
 unfolding afterLines linesOver hears reached
 lines-reached f s [] = refl
 lines-reached f s (b ∷ ls) = lines-reached f (sampleOf s b f .next) ls
 
-sampler-stays : (r : Receiver) (t : Bool) (o : Came) → arrivedOf (startedOf r t) o .sampler ≡ r .sampler
-unfolding startedOf arrivedOf enteredOf pick
-sampler-stays r true NoCharacter = refl
-sampler-stays r true (Arrival c) = refl
-sampler-stays r false NoCharacter = refl
-sampler-stays r false (Arrival c) = refl
+-- a receiver that is told what the sampler says
+abbrev plays : List Said → Receiver → Receiver
+plays [] r = r
+plays (changes ∷ l) r = plays l (withChange r true)
+plays (began ∷ l) r = plays l (startedOf r true)
+plays (came c ∷ l) r = plays l (enteredOf r c)
 
-plays-one : (r : Receiver) (t : Bool) (o : Came) (l : List Said) → plays l (arrivedOf (startedOf r t) o .queue) ≡ plays (begun t ++ (coming o ++ l)) (r .queue)
+-- it does not touch its sampler
+plays-sampler : (l : List Said) (r : Receiver) (s : Sampler) → plays l (withSampler r s) ≡ withSampler (plays l r) s
+unfolding startedOf enteredOf pick
+plays-sampler [] r s = refl
+plays-sampler (changes ∷ l) r s = plays-sampler l (withChange r true) s
+plays-sampler (began ∷ l) r s = plays-sampler l (startedOf r true) s
+plays-sampler (came c ∷ l) r s = plays-sampler l (enteredOf r c) s
+
+plays-answer : (r : Receiver) (s : Sampler) (u t : Bool) (o : Came) (l : List Said)
+    → plays l (arrivedOf (startedOf (heardOf r s u) t) o) ≡ withSampler (plays (changing u ++ (begun t ++ (coming o ++ l))) r) s
 unfolding startedOf arrivedOf enteredOf pick
-plays-one r true NoCharacter l = refl
-plays-one r true (Arrival c) l = refl
-plays-one r false NoCharacter l = refl
-plays-one r false (Arrival c) l = refl
+plays-answer r s true true NoCharacter l = rw or-true (plays-sampler l (startedOf (withChange r true) true) s)
+plays-answer r s true true (Arrival c) l = rw or-true (plays-sampler l (enteredOf (startedOf (withChange r true) true) c) s)
+plays-answer r s true false NoCharacter l = rw or-true (plays-sampler l (withChange r true) s)
+plays-answer r s true false (Arrival c) l = rw or-true (plays-sampler l (enteredOf (withChange r true) c) s)
+plays-answer r s false true NoCharacter l = rw or-false (plays-sampler l (startedOf r true) s)
+plays-answer r s false true (Arrival c) l = rw or-false (plays-sampler l (enteredOf (startedOf r true) c) s)
+plays-answer r s false false NoCharacter l = rw or-false (plays-sampler l r s)
+plays-answer r s false false (Arrival c) l = rw or-false (plays-sampler l (enteredOf r c) s)
 
 pulsed-sampler : (r : Receiver) (b : Bool) (f : Setting) → pulsedOf r b f .sampler ≡ sampleOf (r .sampler) b f .next
 unfolding pulsedOf
-pulsed-sampler r b f = let m : Sampled = sampleOf (r .sampler) b f in sampler-stays (heardOf r (m .next) (m .change)) (m .started) (m .came)
+pulsed-sampler r b f = answered-sampler r (sampleOf (r .sampler) b f)
 
-pulsed-queue : (r : Receiver) (b : Bool) (f : Setting) (ls : List Bool)
-    → plays (heard f (sampleOf (r .sampler) b f .next) ls) (pulsedOf r b f .queue) ≡ plays (heard f (r .sampler) (b ∷ ls)) (r .queue)
-unfolding pulsedOf heard
-pulsed-queue r b f ls =
+after-plays : (f : Setting) (r : Receiver) (ls : List Bool)
+    → after fedOf r (pulses f ls) ≡ withSampler (plays (heard f (r .sampler) ls) r) (reached f (r .sampler) ls)
+unfolding after fedOf heard reached pulsedOf
+after-plays f r [] = refl
+after-plays f r (b ∷ ls) =
     let m : Sampled = sampleOf (r .sampler) b f in
-    plays-one (heardOf r (m .next) (m .change)) (m .started) (m .came) (heard f (m .next) ls)
-
-after-sampler : (f : Setting) (r : Receiver) (ls : List Bool) → after fedOf r (pulses f ls) .sampler ≡ reached f (r .sampler) ls
-unfolding after fedOf reached
-after-sampler f r [] = refl
-after-sampler f r (b ∷ ls) = after-sampler f (pulsedOf r b f) ls ∙ rw (pulsed-sampler r b f)
-
-after-queue : (f : Setting) (r : Receiver) (ls : List Bool) → after fedOf r (pulses f ls) .queue ≡ plays (heard f (r .sampler) ls) (r .queue)
-unfolding after fedOf heard
-after-queue f r [] = refl
-after-queue f r (b ∷ ls) = after-queue f (pulsedOf r b f) ls ∙ rw (pulsed-sampler r b f) (pulsed-queue r b f ls)
+    let n : Receiver = pulsedOf r b f in
+    after-plays f n ls
+    ∙ ap (λ (s : Sampler). withSampler (plays (heard f s ls) n) (reached f s ls)) (pulsed-sampler r b f)
+    ∙ ap (λ (d : Receiver). withSampler d (reached f (m .next) ls)) (plays-answer r (m .next) (m .change) (m .started) (m .came) (heard f (m .next) ls))
 
 -- ---- into an empty queue ----
 
@@ -118,10 +128,22 @@ none-held : (n : ℕ) (c : Character) (l : List Character) → take n (c ∷ l) 
 none-held zero c l e = refl
 none-held (suc n) c l e = absurd (let k = ap length e in omega arith)
 
+empty-count : (q : Queue) → heldOf q ≡ [] → q .count ≡ 0
+unfolding heldOf
+empty-count q e = none-held (q .count) (q .first) _ e
+
 -- a confirmed start removes nothing, and what then arrives is the one held
-one-held : (q : Queue) (c : Character) → heldOf q ≡ [] → heldOf (putOf (withoutWaitingOf q) c) ≡ c ∷ []
-unfolding heldOf putOf withoutWaitingOf pick
-one-held q c e = rw (none-held (q .count) (q .first) _ e)
+one-held : (r : Receiver) (c : Character) → heldOf (r .queue) ≡ [] → heldOf (enteredOf (startedOf r true) c .queue) ≡ c ∷ []
+unfolding heldOf putOf withoutWaitingOf startedOf enteredOf pick
+one-held r c e = rw (empty-count (r .queue) e)
+
+none-overrun : (r : Receiver) (c : Character) → heldOf (r .queue) ≡ [] → enteredOf (startedOf r true) c .overrun ≡ r .overrun
+unfolding startedOf enteredOf pick
+none-overrun r c e = rw (empty-count (r .queue) e, or-false)
+
+none-changed : (r : Receiver) (c : Character) → enteredOf (startedOf r true) c .change ≡ r .change
+unfolding startedOf enteredOf pick
+none-changed r c = refl
 
 idle-again : {s : Sampler} → s ≡ hunting true → Idle s
 idle-again e = record { hunts = rw e; high = rw e }
@@ -130,11 +152,18 @@ idle-again e = record { hunts = rw e; high = rw e }
 pub read-back : (f : Format) (n x : ℕ) (r : Receiver) → f .width .0 ≤ 8 → 9 ≤ n → Idle (r .sampler) → heldOf (r .queue) ≡ [] → ReadBack f n x r
 read-back f n x r w h i e =
     let ls : List Bool = levels 16 n (beforeStop f x) in
+    let c : Character = clean (cutOf (f .width .0) x) in
     let k = idle-hears f n x (r .sampler) w h i in
+    let whole : after fedOf r (sent f n x) ≡ withSampler (enteredOf (startedOf r true) c) (hunting true) =
+    after-plays (at16 f) r ls ∙ rw (k .says, k .ends) in
+    let q : heldOf (after fedOf r (sent f n x) .queue) ≡ c ∷ [] = rw whole (one-held r c e) in
     record {
       one = rw (arrivals-heard (at16 f) (r .sampler) ls, k .says);
-      held = rw (after-queue (at16 f) r ls, k .says) (one-held (r .queue) (clean (cutOf (f .width .0) x)) e);
-      idle = idle-again (after-sampler (at16 f) r ls ∙ k .ends);
+      held = q;
+      reading = given-held (after fedOf r (sent f n x)) ∙ rw q;
+      overrun = rw whole (none-overrun r c e);
+      change = rw whole (none-changed r c);
+      idle = idle-again (rw whole);
     }
 
 -- ---- frames back to back ----

@@ -1,5 +1,6 @@
--- `Delivers` shuts wrong receivers out. Five of them, each `fedOf` but for the queue after one kind of feed, and each refuted by computing
--- what becomes of a few frames: the ledger then has another character, or more, or fewer. Assumes nothing.
+-- `Delivers` shuts wrong receivers out. Six take feeds as `fedOf` does but for the queue after one kind of feed, one shows a status as
+-- `statusOf` does but for the ready bit. Each is refuted by computing what becomes of a few frames: the ledger then has another character,
+-- or more, or fewer. Assumes nothing.
 use Prim.Native.Nat.{ℕ}
 use mathlib.Core.Path.{_≡_, ap}
 use mathlib.Core.Bool.{true, false}
@@ -16,48 +17,38 @@ use Rattle.sampler.specs.Assembly.{dataWidthOf, samplesOf, withSample, characte
 use Rattle.sampler.specs.Character.{noCharacter}
 use Rattle.sampler.specs.Lines.{at16, hears}
 use Rattle.sampler.specs.State.{gapOf, afterStop}
-use Rattle.sampler.specs.Sampler.{lowAt, hunted, started, finished, sampled, assembled, sampleOf}
+use Rattle.sampler.specs.Sampler.{lowAt, hunted, lookedAgain, finished, sampled, assembled, sampleOf}
 use Rattle.receiver.specs.declared.queue.Queue.{Queue}
-use Rattle.receiver.specs.declared.receiver.Effect.the-variants.{NoEffect, Reset, ClearErrors, ClearChange}
+use Rattle.receiver.specs.declared.receiver.Effect.the-variants.{NoEffect, Reset, ClearErrors, ClearBreakChange}
 use Rattle.receiver.specs.declared.receiver.Fed.{Fed}
 use Rattle.receiver.specs.declared.receiver.Feed.{Feed}
 use Rattle.receiver.specs.declared.receiver.Feed.the-variants.{Nothing, Pulse, Command, Read, ChipReset}
-use Rattle.receiver.specs.declared.receiver.Turn.the-variants.{Stays, TurnsOn, TurnsOff}
-use Rattle.receiver.specs.Delivery.{Fate, written, ledgerFrom, Step, after, given, reads, Delivers}
+use Rattle.receiver.specs.declared.receiver.Enabling.the-variants.{Stays, Enables, Disables}
+use Rattle.receiver.specs.Delivery.{Fate, written, ledgerFrom, Step, Show, after, given, reads, Delivers}
 use Rattle.receiver.specs.Delivery.Fate.{Held}
 use Rattle.receiver.specs.Queue.{heldOf, emptyQueue, waitsOf, putOf, withoutWaitingOf, tookOf}
 use Rattle.receiver.specs.ReadBack.{sentAll}
-use Rattle.receiver.specs.Receiver.{freshReceiver, startedOf, enteredOf, arrivedOf, pulsedOf, oldestRead, readOf, fedOf}
+use Rattle.receiver.specs.Status.{statusOf}
+use Rattle.receiver.specs.Receiver.{withQueue, effectOf, enablingOf, freshReceiver, startedOf, enteredOf, arrivedOf, pulsedOf, oldestRead, readOf, fedOf}
 
 -- what a feed leaves, with another queue
-abbrev withQueue : Fed → Queue → Fed
-withQueue d q =
-    record {
-      receiver = record {
-        sampler = d .receiver .sampler;
-        queue = q;
-        overrun = d .receiver .overrun;
-        sums = d .receiver .sums;
-        change = d .receiver .change;
-        last = d .receiver .last;
-      };
-      byte = d .byte;
-    }
+abbrev queueInstead : Fed → Queue → Fed
+queueInstead d q = record { receiver = withQueue (d .receiver) q; byte = d .byte }
 
 -- 8 data bits, no parity
 abbrev eight : Format
 eight = record { width = record { 0 = 8 }; parity = 2; odd = false }
 
--- a high, and then these bytes back to back
+-- it is enabled, a high, and then these bytes back to back
 abbrev line : List ℕ → List Feed
-line xs = Pulse true (at16 eight) ∷ sentAll eight 16 xs
+line xs = Command NoEffect Enables ∷ Pulse true (at16 eight) ∷ sentAll eight 16 xs
 
 -- ---- the waiting one kept, the arriving one dropped ----
 
 -- "Overrun that keeps the waiting character and drops the arriving one."
 unfoldable pub dropsArriving : Step
 dropsArriving r Nothing = fedOf r Nothing
-dropsArriving r (Pulse level f) = pick (waitsOf (r .queue)) (withQueue (fedOf r (Pulse level f)) (r .queue)) (fedOf r (Pulse level f))
+dropsArriving r (Pulse level f) = pick (waitsOf (r .queue)) (queueInstead (fedOf r (Pulse level f)) (r .queue)) (fedOf r (Pulse level f))
 dropsArriving r (Command e t) = fedOf r (Command e t)
 dropsArriving r Read = fedOf r Read
 dropsArriving r ChipReset = fedOf r ChipReset
@@ -66,8 +57,8 @@ dropsArriving r ChipReset = fedOf r ChipReset
 abbrev fourth : List (Character × Fate) → ℕ
 fourth l = getD l 3 (noCharacter, Held) .0 .byte
 
-pub no-dropsArriving : Delivers dropsArriving → ⊥
-unfolding dropsArriving fedOf pulsedOf startedOf arrivedOf enteredOf putOf withoutWaitingOf heldOf after reads given ledgerFrom written hears sampleOf hunted lowAt started assembled sampled finished afterStop gapOf dataWidthOf samplesOf withSample characterOf levels spread beforeStop parityBits bitsOf pick
+pub no-dropsArriving : Delivers dropsArriving statusOf → ⊥
+unfolding dropsArriving fedOf effectOf enablingOf pulsedOf startedOf arrivedOf enteredOf putOf withoutWaitingOf heldOf after reads given ledgerFrom written hears sampleOf hunted lowAt lookedAgain assembled sampled finished afterStop gapOf dataWidthOf samplesOf withSample characterOf levels spread beforeStop parityBits bitsOf pick
 no-dropsArriving h =
     let z : _≡_ {A = ℕ} 5 4 = ap fourth (h freshReceiver (line (1 ∷ 2 ∷ 3 ∷ 4 ∷ 5 ∷ [])) .fates) in
     omega arith
@@ -81,16 +72,16 @@ keepsWaiting r (Pulse level f) = fedOf r (Pulse level f)
 keepsWaiting r (Command NoEffect t) = fedOf r (Command NoEffect t)
 keepsWaiting r (Command Reset t) =
     pick (waitsOf (r .queue))
-    (withQueue (fedOf r (Command Reset t))
+    (queueInstead (fedOf r (Command Reset t))
     (record { count = 1; first = r .queue .waiting; second = noCharacter; third = noCharacter; waiting = noCharacter }))
     (fedOf r (Command Reset t))
 keepsWaiting r (Command ClearErrors t) = fedOf r (Command ClearErrors t)
-keepsWaiting r (Command ClearChange t) = fedOf r (Command ClearChange t)
+keepsWaiting r (Command ClearBreakChange t) = fedOf r (Command ClearBreakChange t)
 keepsWaiting r Read = fedOf r Read
 keepsWaiting r ChipReset = fedOf r ChipReset
 
-pub no-keepsWaiting : Delivers keepsWaiting → ⊥
-unfolding keepsWaiting fedOf pulsedOf startedOf arrivedOf enteredOf putOf withoutWaitingOf heldOf after reads given ledgerFrom written hears sampleOf hunted lowAt started assembled sampled finished afterStop gapOf dataWidthOf samplesOf levels spread beforeStop parityBits bitsOf pick
+pub no-keepsWaiting : Delivers keepsWaiting statusOf → ⊥
+unfolding keepsWaiting fedOf effectOf enablingOf pulsedOf startedOf arrivedOf enteredOf putOf withoutWaitingOf heldOf after reads given ledgerFrom written hears sampleOf hunted lowAt lookedAgain assembled sampled finished afterStop gapOf dataWidthOf samplesOf levels spread beforeStop parityBits bitsOf pick
 no-keepsWaiting h =
     let z : _≡_ {A = ℕ} 0 1 = ap length (h freshReceiver (line (1 ∷ 2 ∷ 3 ∷ 4 ∷ []) ++ (Command Reset Stays ∷ [])) .fates) in
     omega arith
@@ -102,11 +93,11 @@ unfoldable pub readsTwo : Step
 readsTwo r Nothing = fedOf r Nothing
 readsTwo r (Pulse level f) = fedOf r (Pulse level f)
 readsTwo r (Command e t) = fedOf r (Command e t)
-readsTwo r Read = withQueue (fedOf r Read) (tookOf (fedOf r Read .receiver .queue))
+readsTwo r Read = queueInstead (fedOf r Read) (tookOf (fedOf r Read .receiver .queue))
 readsTwo r ChipReset = fedOf r ChipReset
 
-pub no-readsTwo : Delivers readsTwo → ⊥
-unfolding readsTwo fedOf pulsedOf startedOf arrivedOf enteredOf readOf oldestRead putOf withoutWaitingOf tookOf heldOf after reads given ledgerFrom written hears sampleOf hunted lowAt started assembled sampled finished afterStop gapOf dataWidthOf samplesOf levels spread beforeStop parityBits bitsOf pick
+pub no-readsTwo : Delivers readsTwo statusOf → ⊥
+unfolding readsTwo fedOf effectOf enablingOf pulsedOf startedOf arrivedOf enteredOf readOf oldestRead putOf withoutWaitingOf tookOf heldOf after reads given ledgerFrom written hears sampleOf hunted lowAt lookedAgain assembled sampled finished afterStop gapOf dataWidthOf samplesOf levels spread beforeStop parityBits bitsOf pick
 no-readsTwo h =
     let z : _≡_ {A = ℕ} 2 1 = ap length (h freshReceiver (line (1 ∷ 2 ∷ []) ++ (Read ∷ [])) .fates) in
     omega arith
@@ -118,25 +109,52 @@ unfoldable pub disableEmpties : Step
 disableEmpties r Nothing = fedOf r Nothing
 disableEmpties r (Pulse level f) = fedOf r (Pulse level f)
 disableEmpties r (Command e Stays) = fedOf r (Command e Stays)
-disableEmpties r (Command e TurnsOn) = fedOf r (Command e TurnsOn)
-disableEmpties r (Command e TurnsOff) = withQueue (fedOf r (Command e TurnsOff)) emptyQueue
+disableEmpties r (Command e Enables) = fedOf r (Command e Enables)
+disableEmpties r (Command e Disables) = queueInstead (fedOf r (Command e Disables)) emptyQueue
 disableEmpties r Read = fedOf r Read
 disableEmpties r ChipReset = fedOf r ChipReset
 
-pub no-disableEmpties : Delivers disableEmpties → ⊥
-unfolding disableEmpties heldOf after reads given ledgerFrom written hears sampleOf hunted lowAt started assembled sampled finished afterStop gapOf dataWidthOf samplesOf levels spread beforeStop parityBits bitsOf pick
+pub no-disableEmpties : Delivers disableEmpties statusOf → ⊥
+unfolding disableEmpties heldOf after reads given ledgerFrom written hears sampleOf hunted lowAt lookedAgain assembled sampled finished afterStop gapOf dataWidthOf samplesOf levels spread beforeStop parityBits bitsOf pick
 no-disableEmpties h =
-    let z : _≡_ {A = ℕ} 1 0 = ap length (h freshReceiver (line (1 ∷ []) ++ (Command NoEffect TurnsOff ∷ [])) .fates) in
+    let z : _≡_ {A = ℕ} 1 0 = ap length (h freshReceiver (line (1 ∷ []) ++ (Command NoEffect Disables ∷ [])) .fates) in
     omega arith
 
 -- ---- nothing kept ----
 
 -- a queue that is empty after every feed
 unfoldable pub keepsNothing : Step
-keepsNothing r e = withQueue (fedOf r e) emptyQueue
+keepsNothing r e = queueInstead (fedOf r e) emptyQueue
 
-pub no-keepsNothing : Delivers keepsNothing → ⊥
-unfolding keepsNothing heldOf after reads given ledgerFrom written hears sampleOf hunted lowAt started assembled sampled finished afterStop gapOf dataWidthOf samplesOf levels spread beforeStop parityBits bitsOf pick
+pub no-keepsNothing : Delivers keepsNothing statusOf → ⊥
+unfolding keepsNothing heldOf after reads given ledgerFrom written hears sampleOf hunted lowAt lookedAgain assembled sampled finished afterStop gapOf dataWidthOf samplesOf levels spread beforeStop parityBits bitsOf pick
 no-keepsNothing h =
     let z : _≡_ {A = ℕ} 1 0 = ap length (h freshReceiver (line (1 ∷ [])) .fates) in
+    omega arith
+
+-- ---- a character taken by a status read ----
+
+-- "A status read that takes a character.": to the receiver a status read is no feed at all
+unfoldable pub statusTakes : Step
+statusTakes r Nothing = fedOf r Read
+statusTakes r (Pulse level f) = fedOf r (Pulse level f)
+statusTakes r (Command e t) = fedOf r (Command e t)
+statusTakes r Read = fedOf r Read
+statusTakes r ChipReset = fedOf r ChipReset
+
+pub no-statusTakes : Delivers statusTakes statusOf → ⊥
+unfolding statusTakes fedOf effectOf enablingOf pulsedOf startedOf arrivedOf enteredOf readOf oldestRead putOf withoutWaitingOf tookOf heldOf after reads given ledgerFrom written hears sampleOf hunted lowAt lookedAgain assembled sampled finished afterStop gapOf dataWidthOf samplesOf levels spread beforeStop parityBits bitsOf pick
+no-statusTakes h =
+    let z : _≡_ {A = ℕ} 1 0 = ap length (h freshReceiver (line (1 ∷ []) ++ (Nothing ∷ [])) .fates) in
+    omega arith
+
+-- ---- a ready bit that is never set ----
+
+abbrev neverReady : Show
+neverReady r block = record { marks = statusOf r block .marks; overrun = r .overrun; full = statusOf r block .full; ready = false }
+
+pub no-neverReady : Delivers fedOf neverReady → ⊥
+unfolding fedOf effectOf enablingOf pulsedOf startedOf arrivedOf enteredOf readOf oldestRead putOf withoutWaitingOf tookOf heldOf after reads given ledgerFrom written hears sampleOf hunted lowAt lookedAgain assembled sampled finished afterStop gapOf dataWidthOf samplesOf levels spread beforeStop parityBits bitsOf pick
+no-neverReady h =
+    let z : _≡_ {A = ℕ} 1 0 = ap length (h freshReceiver (line (1 ∷ []) ++ (Read ∷ [])) .fates) in
     omega arith

@@ -1,12 +1,13 @@
 -- Demand 3 for one receiver: what is owed of any list of feeds after a chip reset. The ledger is written from the feeds and from the
--- sampler run alone; no queue is in sight. What a receiver owes is then said of any way `step` to take a feed, so that it can be
--- proved of one and proved false of others. Assumes nothing.
-use Prim.Native.Nat.{ℕ, zero, suc, _+_, _≤_}
+-- sampler run alone; no queue is in sight. What a receiver owes is then said of any way `step` to take a feed and any way `show` to tell
+-- its status, so that it can be proved of one and proved false of others. The front feeds a pulse to an enabled receiver only, and
+-- `Enables` to one that was off; the statement asks no such thing of the list. Assumes nothing.
+use Prim.Native.Nat.{ℕ, zero, suc, _≤_}
 use mathlib.Core.Path.{_≡_}
 use mathlib.Core.Bool.{Bool, true, false, _||_}
 use mathlib.Core.List.{List, [], _∷_, _++_, map}
 use lib.Dec.{ltb}
-use lib.ListN.{length, take}
+use lib.ListN.{take}
 use Rattle.frame.specs.Pick.{pick}
 use Rattle.sampler.specs.declared.character.Character.{Character}
 use Rattle.sampler.specs.declared.character.Marks.{Marks}
@@ -19,15 +20,15 @@ use Rattle.sampler.specs.Lines.{Line, hears, arrivals}
 use Rattle.sampler.specs.Lines.Line.{pulse, enable, disable}
 use Rattle.sampler.specs.State.{hunting}
 use Rattle.receiver.specs.declared.receiver.Effect.{Effect}
-use Rattle.receiver.specs.declared.receiver.Effect.the-variants.{NoEffect, Reset, ClearErrors, ClearChange}
+use Rattle.receiver.specs.declared.receiver.Effect.the-variants.{NoEffect, Reset, ClearErrors, ClearBreakChange}
 use Rattle.receiver.specs.declared.receiver.Fed.{Fed}
 use Rattle.receiver.specs.declared.receiver.Feed.{Feed}
 use Rattle.receiver.specs.declared.receiver.Feed.the-variants.{Nothing, Pulse, Command, Read, ChipReset}
 use Rattle.receiver.specs.declared.receiver.Receiver.{Receiver}
-use Rattle.receiver.specs.declared.receiver.Turn.{Turn}
-use Rattle.receiver.specs.declared.receiver.Turn.the-variants.{Stays, TurnsOn, TurnsOff}
+use Rattle.receiver.specs.declared.receiver.Enabling.{Enabling}
+use Rattle.receiver.specs.declared.receiver.Enabling.the-variants.{Stays, Enables, Disables}
+use Rattle.receiver.specs.declared.status.Status.{Status}
 use Rattle.receiver.specs.Queue.{heldOf}
-use Rattle.receiver.specs.Status.{shownMarks, statusOf}
 
 -- ---- what a sampler sees of a feed ----
 
@@ -36,17 +37,19 @@ abbrev pub effectLines : Effect → List Line
 effectLines NoEffect = []
 effectLines Reset = disable ∷ []
 effectLines ClearErrors = []
-effectLines ClearChange = []
+effectLines ClearBreakChange = []
 
-abbrev pub turnLines : Turn → List Line
-turnLines Stays = []
-turnLines TurnsOn = enable ∷ []
-turnLines TurnsOff = disable ∷ []
+-- "the line, the clock pulses, the format and the enable alone" (demand 3)
+abbrev pub enablingLines : Enabling → List Line
+enablingLines Stays = []
+enablingLines Enables = enable ∷ []
+enablingLines Disables = disable ∷ []
 
+-- "bits 6-4 first, then .. 1-0 (receiver)": a read, or a command that clears, is nothing to a sampler
 abbrev pub linesOf : Feed → List Line
 linesOf Nothing = []
 linesOf (Pulse level f) = pulse level f ∷ []
-linesOf (Command e t) = effectLines e ++ turnLines t
+linesOf (Command e t) = effectLines e ++ enablingLines t
 linesOf Read = []
 linesOf ChipReset = disable ∷ []
 
@@ -73,7 +76,7 @@ meets n f (entry c k WasRead ∷ l) = entry c k WasRead ∷ meets n f l
 meets n f (entry c k Overrun ∷ l) = entry c k Overrun ∷ meets n f l
 meets n f (entry c k Dropped ∷ l) = entry c k Dropped ∷ meets n f l
 
--- "those a receiver or chip reset dropped": all that are held
+-- demand 3: "those a receiver or chip reset dropped", which are all that are held
 abbrev pub dropAll : List Entry → List Entry
 dropAll [] = []
 dropAll (entry c k Held ∷ l) = entry c k Dropped ∷ dropAll l
@@ -106,7 +109,7 @@ overruns (entry c k WasRead ∷ l) = overruns l
 overruns (entry c k Overrun ∷ l) = suc (overruns l)
 overruns (entry c k Dropped ∷ l) = overruns l
 
--- The sampler run alone, the arrivals with their fates, and whether a fate "overrun" came since the last command 4 or chip reset.
+-- The sampler run alone, the arrivals with their fates, and whether a fate Overrun came since the last command 4 or chip reset.
 pub record Ledger : Type 0 where
   pub sampler : Sampler
   pub entries : List Entry
@@ -116,26 +119,31 @@ pub record Ledger : Type 0 where
 abbrev pub opened : Ledger
 opened = record { sampler = hunting false; entries = []; overran = false }
 
+-- a pulse: the confirmed start, then the arrival
 abbrev pub pulseWritten : Ledger → Sampled → Ledger
 pulseWritten l m =
     let es : List Entry = enters (m .came) (starts (m .started) (l .entries)) in
     record { sampler = m .next; entries = es; overran = l .overran || ltb (overruns (l .entries)) (overruns es) }
 
+-- "2 reset receiver (disabled; queue, waiting place and assembly cleared; overrun mark stays)"; "4 clear overrun, block sums and the top
+-- character's marks"
 abbrev pub effectWritten : Ledger → Effect → Ledger
 effectWritten l NoEffect = l
 effectWritten l Reset = record { sampler = hears (l .sampler) disable .next; entries = dropAll (l .entries); overran = l .overran }
 effectWritten l ClearErrors = record { sampler = l .sampler; entries = clears (l .entries); overran = false }
-effectWritten l ClearChange = l
+effectWritten l ClearBreakChange = l
 
-abbrev pub turnWritten : Ledger → Turn → Ledger
-turnWritten l Stays = l
-turnWritten l TurnsOn = record { sampler = hears (l .sampler) enable .next; entries = l .entries; overran = l .overran }
-turnWritten l TurnsOff = record { sampler = hears (l .sampler) disable .next; entries = l .entries; overran = l .overran }
+-- "Disable drops the character being put together and ends the wait for a break's end, no more."
+abbrev pub enablingWritten : Ledger → Enabling → Ledger
+enablingWritten l Stays = l
+enablingWritten l Enables = record { sampler = hears (l .sampler) enable .next; entries = l .entries; overran = l .overran }
+enablingWritten l Disables = record { sampler = hears (l .sampler) disable .next; entries = l .entries; overran = l .overran }
 
+-- "A read takes the oldest"; a chip reset drops all, and clears every mark
 unfoldable pub written : Ledger → Feed → Ledger
 written l Nothing = l
 written l (Pulse level f) = pulseWritten l (hears (l .sampler) (pulse level f))
-written l (Command e t) = turnWritten (effectWritten l e) t
+written l (Command e t) = enablingWritten (effectWritten l e) t
 written l Read = record { sampler = l .sampler; entries = meets 0 WasRead (l .entries); overran = l .overran }
 written l ChipReset = record { sampler = hears (l .sampler) disable .next; entries = dropAll (l .entries); overran = false }
 
@@ -146,7 +154,7 @@ ledgerFrom l (e ∷ es) = ledgerFrom (written l e) es
 abbrev pub ledger : List Feed → Ledger
 ledger es = ledgerFrom opened es
 
--- "less those overrun removed by document 01's rule and those a receiver or chip reset dropped"
+-- demand 3: "less those overrun removed by document 01's rule and those a receiver or chip reset dropped"
 abbrev pub live : List Entry → List Entry
 live [] = []
 live (entry c k Held ∷ l) = entry c k Held ∷ live l
@@ -177,44 +185,48 @@ oldestKnown (entry c k Dropped ∷ l) = oldestKnown l
 
 -- ---- a receiver that takes feeds ----
 
--- any way to take a feed
+-- any way to take a feed, and any way to show a status: in block mode, or not
 abbrev pub Step : Type 0
 Step = Receiver → Feed → Fed
+
+abbrev pub Show : Type 0
+Show = Receiver → Bool → Status
 
 unfoldable pub after : Step → Receiver → List Feed → Receiver
 after step r [] = r
 after step r (e ∷ es) = after step (step r e .receiver) es
 
--- "the program read while the ready bit was set": the byte that the read answers, under the marks that SR showed before it
-unfoldable pub given : Step → Receiver → Feed → List Character
-given step r Nothing = []
-given step r (Pulse level f) = []
-given step r (Command e t) = []
-given step r Read = pick (statusOf r false .ready) (record { byte = step r Read .byte; marks = shownMarks r false } ∷ []) []
-given step r ChipReset = []
+-- demand 3: "the program read while the ready bit was set": the byte that the read answers, under the marks that SR shows before it in
+-- character mode
+unfoldable pub given : Step → Show → Receiver → Feed → List Character
+given step show r Nothing = []
+given step show r (Pulse level f) = []
+given step show r (Command e t) = []
+given step show r Read = pick (show r false .ready) (record { byte = step r Read .byte; marks = show r false .marks } ∷ []) []
+given step show r ChipReset = []
 
-unfoldable pub reads : Step → Receiver → List Feed → List Character
-reads step r [] = []
-reads step r (e ∷ es) = given step r e ++ reads step (step r e .receiver) es
+unfoldable pub reads : Step → Show → Receiver → List Feed → List Character
+reads step show r [] = []
+reads step show r (e ∷ es) = given step show r e ++ reads step show (step r e .receiver) es
 
 abbrev pub fatedBy : Fate → List Character → List (Character × Fate)
 fatedBy f [] = []
 fatedBy f (c ∷ cs) = (c, f) ∷ fatedBy f cs
 
--- What is owed of a list of feeds, from any receiver after a chip reset.
-pub record Delivery (step : Step) (r : Receiver) (es : List Feed) : Type 0 where
-  -- the ledger has "exactly these characters in order, each once", whole as they arrived
+-- What is owed of a list of feeds, from any receiver after a chip reset. The first field is the ledger's own: no receiver is in it.
+pub record Delivery (step : Step) (show : Show) (r : Receiver) (es : List Feed) : Type 0 where
+  -- demand 3: the ledger has "exactly these characters in order, each once", whole as they arrived
   pub all : map asArrived (ledger es .entries) ≡ arrivals (hunting false) (linesOver es)
   -- less those removed and dropped, they are "Those the program read while the ready bit was set, then those still held"
   pub fates : map known (live (ledger es .entries))
-      ≡ fatedBy WasRead (reads step (step r ChipReset .receiver) es) ++ fatedBy Held (heldOf (after step (step r ChipReset .receiver) es .queue))
+      ≡ fatedBy WasRead (reads step show (step r ChipReset .receiver) es) ++ fatedBy Held (heldOf (after step (step r ChipReset .receiver) es .queue))
   -- "At most four are ever held.": after any number of the feeds
-  pub four : (k : ℕ) → length (heldOf (after step (step r ChipReset .receiver) (take k es) .queue)) ≤ 4
-  -- SR bit 4 is set exactly when a fate "overrun" came since the last command 4 or chip reset
-  pub overrun : (block : Bool) → statusOf (after step (step r ChipReset .receiver) es) block .overrun ≡ ledger es .overran
-  -- "SR 7-5 show the oldest's marks, 0 if none", less cleared ones
-  pub marks : shownMarks (after step (step r ChipReset .receiver) es) false ≡ oldestKnown (ledger es .entries)
+  pub four : (k : ℕ) → after step (step r ChipReset .receiver) (take k es) .queue .count ≤ 4
+  -- SR bit 4 is set exactly when a fate Overrun came since the last command 4 or chip reset
+  pub overrun : (block : Bool) → show (after step (step r ChipReset .receiver) es) block .overrun ≡ ledger es .overran
+  -- "Character errors: SR 7-5 show the oldest's marks, 0 if none.", less cleared ones
+  pub marks : show (after step (step r ChipReset .receiver) es) false .marks ≡ oldestKnown (ledger es .entries)
 
--- a way to take feeds that delivers
-abbrev pub Delivers : Step → Type 0
-Delivers step = (r : Receiver) (es : List Feed) → Delivery step r es
+-- a receiver that delivers
+abbrev pub Delivers : Step → Show → Type 0
+Delivers step show = (r : Receiver) (es : List Feed) → Delivery step show r es

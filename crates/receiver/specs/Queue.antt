@@ -13,34 +13,31 @@ use Rattle.receiver.specs.declared.queue.Queue.{Queue}
 
 -- ---- the list ----
 
-abbrev pub Held : Type 0
-Held = List Character
-
 -- "An arrival goes to the queue of three, or waits when that is full."
-abbrev pub put : Held → Character → Held
+abbrev pub put : List Character → Character → List Character
 put h c = h ++ (c ∷ [])
 
 -- whether one waits
-abbrev pub waits : Held → Bool
+abbrev pub waits : List Character → Bool
 waits h = leb 4 (length h)
 
 -- "A confirmed start while one waits removes the waiting one"
-abbrev pub withoutWaiting : Held → Held
+abbrev pub withoutWaiting : List Character → List Character
 withoutWaiting h = take 3 h
 
 -- "A read takes the oldest and moves the waiting one up"; of an empty queue it "takes nothing"
-abbrev pub took : Held → Held
+abbrev pub took : List Character → List Character
 took h = drop 1 h
 
 -- the oldest, if there is one, becomes this one
-abbrev pub replaced : Held → Character → Held
+abbrev pub replaced : List Character → Character → List Character
 replaced [] c = []
 replaced (x ∷ h) c = c ∷ h
 
 -- ---- the layout ----
 
 -- the list that a layout means
-unfoldable pub heldOf : Queue → Held
+unfoldable pub heldOf : Queue → List Character
 heldOf q = take (q .count) (q .first ∷ q .second ∷ q .third ∷ q .waiting ∷ [])
 
 abbrev pub emptyQueue : Queue
@@ -60,14 +57,13 @@ oldestOf q = q .first
 abbrev pub waitsOf : Queue → Bool
 waitsOf q = leb 4 (q .count)
 
--- With four held no place is left; the sampler never lets it come to that (proofs/Laws/Waiting).
+-- Four are never held when one arrives (proofs/Laws/Waiting); if they were, the arriving one would take the waiting one's place.
 unfoldable pub putOf : Queue → Character → Queue
 putOf q c =
     pick (eqb (q .count) 0) (record { count = 1; first = c; second = q .second; third = q .third; waiting = q .waiting })
     (pick (eqb (q .count) 1) (record { count = 2; first = q .first; second = c; third = q .third; waiting = q .waiting })
     (pick (eqb (q .count) 2) (record { count = 3; first = q .first; second = q .second; third = c; waiting = q .waiting })
-    (pick (eqb (q .count) 3) (record { count = 4; first = q .first; second = q .second; third = q .third; waiting = c })
-    q)))
+    (record { count = 4; first = q .first; second = q .second; third = q .third; waiting = c })))
 
 unfoldable pub withoutWaitingOf : Queue → Queue
 withoutWaitingOf q =

@@ -1,4 +1,4 @@
--- The read-back of demand 2: "A frame the transmitter sends is read back by an idle, enabled, empty, undisturbed receiver with the
+-- Demand 2: "A frame the transmitter sends is read back by an idle, enabled, empty, undisturbed receiver with the
 -- same format and 16X pulses as the same character, cut to its data bits, without an error mark." Assumes nothing.
 use Prim.Native.Nat.{ℕ}
 use mathlib.Core.Path.{_≡_}
@@ -13,11 +13,12 @@ use Rattle.sampler.specs.declared.state.Setting.{Setting}
 use Rattle.sampler.specs.Character.{clean}
 use Rattle.sampler.specs.Lines.{at16, afterLines, arrivals}
 use Rattle.receiver.specs.declared.receiver.Feed.{Feed}
-use Rattle.receiver.specs.declared.receiver.Feed.the-variants.{Pulse}
+use Rattle.receiver.specs.declared.receiver.Feed.the-variants.{Pulse, Read}
 use Rattle.receiver.specs.declared.receiver.Receiver.{Receiver}
-use Rattle.receiver.specs.Delivery.{linesOver, after}
+use Rattle.receiver.specs.Delivery.{linesOver, after, given}
 use Rattle.receiver.specs.Queue.{heldOf}
 use Rattle.receiver.specs.Receiver.{fedOf}
+use Rattle.receiver.specs.Status.{statusOf}
 
 -- levels, one a pulse
 abbrev pub pulses : Setting → List Bool → List Feed
@@ -42,10 +43,14 @@ abbrev pub cleanCuts : Format → List ℕ → List Character
 cleanCuts f [] = []
 cleanCuts f (x ∷ xs) = clean (cutOf (f .width .0) x) ∷ cleanCuts f xs
 
--- Exactly one character arrives, the byte cut to its data bits and without a mark; it is the one held; the receiver is idle again.
+-- Exactly one character arrives, the byte cut to its data bits and without a mark; it is the one held; a read gives it, and SR shows no
+-- mark before it; overrun and break change are as they were; the receiver is idle again.
 pub record ReadBack (f : Format) (n x : ℕ) (r : Receiver) : Type 0 where
   pub one : arrivals (r .sampler) (linesOver (sent f n x)) ≡ clean (cutOf (f .width .0) x) ∷ []
   pub held : heldOf (after fedOf r (sent f n x) .queue) ≡ clean (cutOf (f .width .0) x) ∷ []
+  pub reading : given fedOf statusOf (after fedOf r (sent f n x)) Read ≡ clean (cutOf (f .width .0) x) ∷ []
+  pub overrun : after fedOf r (sent f n x) .overrun ≡ r .overrun
+  pub change : after fedOf r (sent f n x) .change ≡ r .change
   pub idle : Idle (after fedOf r (sent f n x) .sampler)
 
 -- Frames back to back: each byte arrives once, in order, cut to its data bits and without a mark, and the sampler is idle again.

@@ -1,4 +1,5 @@
 -- One receiver: sampler and queue side by side, and what a feed does to it. Assumes nothing.
+use Prim.Native.Nat.{ℕ}
 use mathlib.Core.Bool.{Bool, false, _||_}
 use Rattle.frame.specs.Pick.{pick}
 use Rattle.sampler.specs.declared.character.Character.{Character}
@@ -13,13 +14,13 @@ use Rattle.sampler.specs.State.{hunting}
 use Rattle.sampler.specs.Sampler.{sampleOf}
 use Rattle.receiver.specs.declared.queue.Queue.{Queue}
 use Rattle.receiver.specs.declared.receiver.Effect.{Effect}
-use Rattle.receiver.specs.declared.receiver.Effect.the-variants.{NoEffect, Reset, ClearErrors, ClearChange}
+use Rattle.receiver.specs.declared.receiver.Effect.the-variants.{NoEffect, Reset, ClearErrors, ClearBreakChange}
 use Rattle.receiver.specs.declared.receiver.Fed.{Fed}
 use Rattle.receiver.specs.declared.receiver.Feed.{Feed}
 use Rattle.receiver.specs.declared.receiver.Feed.the-variants.{Nothing, Pulse, Command, Read, ChipReset}
 use Rattle.receiver.specs.declared.receiver.Receiver.{Receiver}
-use Rattle.receiver.specs.declared.receiver.Turn.{Turn}
-use Rattle.receiver.specs.declared.receiver.Turn.the-variants.{Stays, TurnsOn, TurnsOff}
+use Rattle.receiver.specs.declared.receiver.Enabling.{Enabling}
+use Rattle.receiver.specs.declared.receiver.Enabling.the-variants.{Stays, Enables, Disables}
 use Rattle.receiver.specs.Queue.{emptyQueue, isEmptyOf, oldestOf, waitsOf, putOf, withoutWaitingOf, tookOf, replacedOf}
 
 -- "Chip reset: .. every .. flag, mark, last byte read .. 0, .. queues, waiting .. places, .. assembly empty"
@@ -30,37 +31,41 @@ freshReceiver = record { sampler = hunting false; queue = emptyQueue; overrun = 
 unfoldable pub oldestMarks : Queue → Marks
 oldestMarks q = pick (isEmptyOf q) noMarks (oldestOf q .marks)
 
+-- ---- a receiver with another part ----
+
+abbrev pub withSampler : Receiver → Sampler → Receiver
+withSampler r x = record { sampler = x; queue = r .queue; overrun = r .overrun; sums = r .sums; change = r .change; last = r .last }
+
+abbrev pub withQueue : Receiver → Queue → Receiver
+withQueue r x = record { sampler = r .sampler; queue = x; overrun = r .overrun; sums = r .sums; change = r .change; last = r .last }
+
+abbrev pub withOverrun : Receiver → Bool → Receiver
+withOverrun r x = record { sampler = r .sampler; queue = r .queue; overrun = x; sums = r .sums; change = r .change; last = r .last }
+
+abbrev pub withSums : Receiver → Marks → Receiver
+withSums r x = record { sampler = r .sampler; queue = r .queue; overrun = r .overrun; sums = x; change = r .change; last = r .last }
+
+abbrev pub withChange : Receiver → Bool → Receiver
+withChange r x = record { sampler = r .sampler; queue = r .queue; overrun = r .overrun; sums = r .sums; change = x; last = r .last }
+
+abbrev pub withLast : Receiver → ℕ → Receiver
+withLast r x = record { sampler = r .sampler; queue = r .queue; overrun = r .overrun; sums = r .sums; change = r .change; last = x }
+
 -- ---- a pulse ----
 
--- "break change set"; it stays until command 5 or a chip reset
+-- "break change set": it stays until command 5 or a chip reset
 abbrev pub heardOf : Receiver → Sampler → Bool → Receiver
-heardOf r s change = record { sampler = s; queue = r .queue; overrun = r .overrun; sums = r .sums; change = r .change || change; last = r .last }
+heardOf r s change = withChange (withSampler r s) (r .change || change)
 
 -- "A confirmed start while one waits removes the waiting one and sets overrun."
 unfoldable pub startedOf : Receiver → Bool → Receiver
-startedOf r started =
-    pick started
-    (record {
-      sampler = r .sampler;
-      queue = withoutWaitingOf (r .queue);
-      overrun = r .overrun || waitsOf (r .queue);
-      sums = r .sums;
-      change = r .change;
-      last = r .last;
-    })
-    r
+startedOf r started = pick started (withOverrun (withQueue r (withoutWaitingOf (r .queue))) (r .overrun || waitsOf (r .queue))) r
 
 -- An arrival. Into an empty queue it becomes oldest: "the marks, each bit ORed, of all that became oldest".
 unfoldable pub enteredOf : Receiver → Character → Receiver
 enteredOf r c =
-    record {
-      sampler = r .sampler;
-      queue = putOf (r .queue) c;
-      overrun = r .overrun;
-      sums = pick (isEmptyOf (r .queue)) (orMarks (r .sums) (c .marks)) (r .sums);
-      change = r .change;
-      last = r .last;
-    }
+    withSums (withQueue r (putOf (r .queue) c))
+    (pick (isEmptyOf (r .queue)) (orMarks (r .sums) (c .marks)) (r .sums))
 
 unfoldable pub arrivedOf : Receiver → Came → Receiver
 arrivedOf r NoCharacter = r
@@ -74,56 +79,43 @@ pulsedOf r level f =
 
 -- ---- a command ----
 
+-- "Disable drops the character being put together and ends the wait for a break's end, no more."
 abbrev pub assemblyDropped : Receiver → Receiver
-assemblyDropped r = record { sampler = hunting false; queue = r .queue; overrun = r .overrun; sums = r .sums; change = r .change; last = r .last }
+assemblyDropped r = withSampler r (hunting false)
 
 -- "2 reset receiver (disabled; queue, waiting place and assembly cleared; overrun mark stays)"
 abbrev pub resetOf : Receiver → Receiver
-resetOf r = record { sampler = hunting false; queue = emptyQueue; overrun = r .overrun; sums = r .sums; change = r .change; last = r .last }
+resetOf r = withQueue (assemblyDropped r) emptyQueue
 
 -- "4 clear overrun, block sums and the top character's marks"
 abbrev pub errorsCleared : Receiver → Receiver
-errorsCleared r =
-    record {
-      sampler = r .sampler;
-      queue = replacedOf (r .queue) (unmarkedOf (oldestOf (r .queue)));
-      overrun = false;
-      sums = noMarks;
-      change = r .change;
-      last = r .last;
-    }
+errorsCleared r = withSums (withOverrun (withQueue r (replacedOf (r .queue) (unmarkedOf (oldestOf (r .queue))))) false) noMarks
 
 -- "5 clear break change"
-abbrev pub changeCleared : Receiver → Receiver
-changeCleared r = record { sampler = r .sampler; queue = r .queue; overrun = r .overrun; sums = r .sums; change = false; last = r .last }
+abbrev pub breakChangeCleared : Receiver → Receiver
+breakChangeCleared r = withChange r false
 
+-- bits 6-4 of a command
 unfoldable pub effectOf : Receiver → Effect → Receiver
 effectOf r NoEffect = r
 effectOf r Reset = resetOf r
 effectOf r ClearErrors = errorsCleared r
-effectOf r ClearChange = changeCleared r
+effectOf r ClearBreakChange = breakChangeCleared r
 
--- "Disable drops the character being put together and ends the wait for a break's end, no more."
--- "A receiver just enabled must sample a high before a low counts".
-unfoldable pub turnedOf : Receiver → Turn → Receiver
-turnedOf r Stays = r
-turnedOf r TurnsOn = assemblyDropped r
-turnedOf r TurnsOff = assemblyDropped r
+-- Bits 1-0 of a command, of a receiver that was off (`Enables`) or on (`Disables`): "A receiver just enabled must sample a high before a
+-- low counts". "Enabling it again changes nothing.": that is `Stays`.
+unfoldable pub enablingOf : Receiver → Enabling → Receiver
+enablingOf r Stays = r
+enablingOf r Enables = assemblyDropped r
+enablingOf r Disables = assemblyDropped r
 
 -- ---- a read ----
 
--- The read of a queue that is not empty: the oldest's byte is answered and becomes the last byte read, and the next one, if any,
--- becomes oldest.
+-- The read of a queue that is not empty: the oldest's byte becomes the last byte read, and the next one, if any, becomes oldest.
 unfoldable pub oldestRead : Receiver → Receiver
 oldestRead r =
-    record {
-      sampler = r .sampler;
-      queue = tookOf (r .queue);
-      overrun = r .overrun;
-      sums = orMarks (r .sums) (oldestMarks (tookOf (r .queue)));
-      change = r .change;
-      last = oldestOf (r .queue) .byte;
-    }
+    withLast (withSums (withQueue r (tookOf (r .queue))) (orMarks (r .sums) (oldestMarks (tookOf (r .queue)))))
+    (oldestOf (r .queue) .byte)
 
 -- "A read takes the oldest and moves the waiting one up; reading an empty queue repeats the last byte read (0 after a chip reset)
 -- and takes nothing."
@@ -133,7 +125,7 @@ readOf r =
 
 -- ---- any feed ----
 
--- nothing is read
+-- "the data byte (0 where none is read)"
 abbrev pub unread : Receiver → Fed
 unread r = record { receiver = r; byte = 0 }
 
@@ -141,6 +133,6 @@ unread r = record { receiver = r; byte = 0 }
 unfoldable pub fedOf : Receiver → Feed → Fed
 fedOf r Nothing = unread r
 fedOf r (Pulse level f) = unread (pulsedOf r level f)
-fedOf r (Command e t) = unread (turnedOf (effectOf r e) t)
+fedOf r (Command e t) = unread (enablingOf (effectOf r e) t)
 fedOf r Read = readOf r
 fedOf r ChipReset = unread freshReceiver

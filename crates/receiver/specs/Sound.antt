@@ -10,7 +10,7 @@ use Rattle.receiver.specs.declared.receiver.Feed.the-variants.{Nothing, 
 use Rattle.receiver.specs.declared.receiver.Receiver.{Receiver}
 use Rattle.receiver.specs.Queue.{waitsOf}
 
--- "At most four are ever held."
+-- demand 3: "At most four are ever held."
 abbrev pub queueInRange : Queue → Bool
 queueInRange q = leb (q .count) 4
 

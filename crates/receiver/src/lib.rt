@@ -8,10 +8,10 @@ mod status;
 
 pub use queue::Queue;
 pub use receiver::Effect;
+pub use receiver::Enabling;
 pub use receiver::Fed;
 pub use receiver::Feed;
 pub use receiver::Receiver;
-pub use receiver::Turn;
 pub use receiver::feed_receiver;
 pub use receiver::fresh_receiver;
 pub use status::Status;

@@ -86,11 +86,8 @@ pub fn put(queue: Queue, character: Character) -> Queue
         q.third = character;
         return q;
     }
-    if queue.count == 3 {
-        q.count = 4;
-        q.waiting = character;
-        return q;
-    }
+    q.count = 4;
+    q.waiting = character;
     q
 }
 
@@ -98,11 +95,11 @@ pub fn put(queue: Queue, character: Character) -> Queue
 pub fn remove_waiting(queue: Queue) -> Queue
     ensures { λ r. ⌜ r ≡ withoutWaitingOf queue ⌝ }
 {
-    let mut q = queue;
+    let mut rest = queue;
     if queue.count >= 4 {
-        q.count = 3;
+        rest.count = 3;
     }
-    q
+    rest
 }
 
 // "A read takes the oldest and moves the waiting one up".

@@ -20,7 +20,7 @@ use sampler::sample;
 use sampler::unmarked;
 ghost use mathlib.Core.Path.{_≡_};
 ghost use Rattle.receiver.specs.Receiver.{freshReceiver, oldestMarks, heardOf, startedOf, enteredOf, arrivedOf, pulsedOf, assemblyDropped};
-ghost use Rattle.receiver.specs.Receiver.{resetOf, errorsCleared, changeCleared, effectOf, turnedOf, oldestRead, readOf, unread, fedOf};
+ghost use Rattle.receiver.specs.Receiver.{resetOf, errorsCleared, breakChangeCleared, effectOf, enablingOf, oldestRead, readOf, unread, fedOf};
 
 #[repr(C)]
 pub struct Receiver {
@@ -44,14 +44,15 @@ pub enum Effect {
     // 4 clear overrun, block sums and the top character's marks
     ClearErrors,
     // 5 clear break change
-    ClearChange,
+    ClearBreakChange,
 }
 
-// What bits 1-0 of a command then do to it. Enabling an enabled receiver is `Stays`.
-pub enum Turn {
+// What bits 1-0 of a command then do to it: `Enables` one that was off. "Enabling it again changes
+// nothing.": that is `Stays`.
+pub enum Enabling {
     Stays,
-    TurnsOn,
-    TurnsOff,
+    Enables,
+    Disables,
 }
 
 // What one event hands to a receiver. A pulse reaches an enabled one only: the level of the line, the
@@ -59,7 +60,7 @@ pub enum Turn {
 pub enum Feed {
     Nothing,
     Pulse(bool, Setting),
-    Command(Effect, Turn),
+    Command(Effect, Enabling),
     Read,
     ChipReset,
 }
@@ -190,8 +191,8 @@ fn clear_errors(receiver: Receiver) -> Receiver
 }
 
 // "5 clear break change"
-fn clear_change(receiver: Receiver) -> Receiver
-    ensures { λ r. ⌜ r ≡ changeCleared receiver ⌝ }
+fn clear_break_change(receiver: Receiver) -> Receiver
+    ensures { λ r. ⌜ r ≡ breakChangeCleared receiver ⌝ }
 {
     let mut r = receiver;
     r.change = false;
@@ -205,17 +206,17 @@ fn take_effect(receiver: Receiver, effect: Effect) -> Receiver
         Effect::NoEffect => receiver,
         Effect::Reset => reset(receiver),
         Effect::ClearErrors => clear_errors(receiver),
-        Effect::ClearChange => clear_change(receiver),
+        Effect::ClearBreakChange => clear_break_change(receiver),
     }
 }
 
-fn switch(receiver: Receiver, turn: Turn) -> Receiver
-    ensures { λ r. ⌜ r ≡ turnedOf receiver turn ⌝ }
+fn take_enabling(receiver: Receiver, enabling: Enabling) -> Receiver
+    ensures { λ r. ⌜ r ≡ enablingOf receiver enabling ⌝ }
 {
-    match turn {
-        Turn::Stays => receiver,
-        Turn::TurnsOn => drop_character(receiver),
-        Turn::TurnsOff => drop_character(receiver),
+    match enabling {
+        Enabling::Stays => receiver,
+        Enabling::Enables => drop_character(receiver),
+        Enabling::Disables => drop_character(receiver),
     }
 }
 
@@ -267,7 +268,10 @@ pub fn feed_receiver(receiver: Receiver, feed: Feed) -> Fed
     match feed {
         Feed::Nothing => no_read(receiver),
         Feed::Pulse(level, setting) => no_read(pulse(receiver, level, setting)),
-        Feed::Command(effect, turn) => no_read(switch(take_effect(receiver, effect), turn)),
+        Feed::Command(effect, enabling) => no_read(take_enabling(
+            take_effect(receiver, effect),
+            enabling,
+        )),
         Feed::Read => read(receiver),
         Feed::ChipReset => no_read(fresh_receiver()),
     }

@@ -1,5 +1,5 @@
--- "the characters that the line, the clock pulses, the format and the enable alone put together": what reaches a sampler, and what
--- the sampler, run alone over it, puts together. There is no queue here, and nothing that a program reads. Assumes nothing.
+-- Demand 3: "the characters that the line, the clock pulses, the format and the enable alone put together". What reaches a sampler, and
+-- what the sampler, run alone over it, puts together. There is no queue here, and nothing that a program reads. Assumes nothing.
 use mathlib.Core.Bool.{Bool, true, false}
 use mathlib.Core.List.{List, [], _∷_, _++_}
 use Rattle.frame.specs.declared.format.Format.{Format}

@@ -16,6 +16,7 @@ use Rattle.sampler.specs.Assembly.{samplesOf, withSample, characterOf}
 abbrev pub still : Sampler → Sampled
 still s = record { next = s; started = false; came = NoCharacter; change = false }
 
+-- a confirmed start: no sample is taken yet
 abbrev pub confirmed : Setting → Sampled
 confirmed f = record { next = assembling f (gapOf (f .sixteen)) (record { 0 = 0 }) 0; started = true; came = NoCharacter; change = false }
 
@@ -28,8 +29,8 @@ unfoldable pub hunted : Sampler → Bool → Setting → Sampled
 hunted s level f = pick level (still (hunting true)) (pick (s .high) (lowAt f) (still (hunting false)))
 
 -- "at p+8 it must still be low, else hunt again"
-unfoldable pub started : Sampler → Bool → Sampled
-started s level =
+unfoldable pub lookedAgain : Sampler → Bool → Sampled
+lookedAgain s level =
     pick (eqb (s .left .0) 0)
     (pick level (still (hunting true)) (confirmed (s .setting)))
     (still (starting (s .setting) (record { 0 = s .left .0 - 1 })))
@@ -38,6 +39,7 @@ started s level =
 abbrev pub arrived : Setting → ℕ → Bool → Sampled
 arrived f v stop = record { next = afterStop (f .sixteen) stop; started = false; came = Arrival (characterOf (f .format) v stop); change = false }
 
+-- a break: "hunting waits for 8 high pulses in a row"
 abbrev pub broke : Sampled
 broke = record { next = inBreak 7; started = false; came = Arrival breakCharacter; change = true }
 
@@ -52,6 +54,7 @@ sampled s level =
     (still (assembling (s .setting) (gapOf (s .setting .sixteen)) (record { 0 = s .taken .0 + 1 }) (withSample (s .value) (s .taken .0) level)))
     (finished (s .setting) (s .value) level)
 
+-- "one sample each 16 pulses"
 unfoldable pub assembled : Sampler → Bool → Sampled
 assembled s level =
     pick (eqb (s .left .0) 0) (sampled s level)
@@ -76,7 +79,7 @@ waited s level f =
 -- One pulse of the receiver's clock, with the level of the line and the setting as it stands. A phase above 4, which no rule puts there, hunts.
 unfoldable pub sampleOf : Sampler → Bool → Setting → Sampled
 sampleOf s level f =
-    pick (eqb (s .phase) 1) (started s level)
+    pick (eqb (s .phase) 1) (lookedAgain s level)
     (pick (eqb (s .phase) 2) (assembled s level)
     (pick (eqb (s .phase) 3) (followed s level f)
     (pick (eqb (s .phase) 4) (waited s level f)

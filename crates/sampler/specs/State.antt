@@ -1,4 +1,4 @@
--- What a sampler is doing. A count `left` is of pulses still to pass before the one that is looked at, so 0 means the next one is.
+-- What a sampler is doing. A count `left` is of the pulses still to come before the one that decides, so 0 means the next one does.
 -- Assumes nothing.
 use Prim.Native.Nat.{ℕ}
 use mathlib.Core.Bool.{Bool, true, false}
@@ -17,7 +17,7 @@ noSetting = record { format = formatOf 0; sixteen = true }
 abbrev pub emptyAt : ℕ → Bool → Pulses → Sampler
 emptyAt phase high left = record { phase = phase; high = high; left = left; setting = noSetting; taken = record { 0 = 0 }; value = 0 }
 
--- 0: it hunts, and its last sample was high or was not
+-- 0: it hunts, and its last sample was high; or was not, or there is none since it was enabled
 abbrev pub hunting : Bool → Sampler
 hunting high = emptyAt 0 high (record { 0 = 0 })
 
@@ -29,11 +29,11 @@ starting f left = record { phase = 1; high = false; left = left; setting = f; ta
 abbrev pub assembling : Setting → Pulses → Bits → ℕ → Sampler
 assembling f left taken value = record { phase = 2; high = false; left = left; setting = f; taken = taken; value = value }
 
--- 3: next to a low stop
+-- 3: after a low stop, with so many more lows before the one that is p
 abbrev pub afterLowStop : ℕ → Sampler
 afterLowStop left = emptyAt 3 false (record { 0 = left })
 
--- 4: in the wait for a break's end
+-- 4: the wait for a break's end, with so many more highs before the one that ends it
 abbrev pub inBreak : ℕ → Sampler
 inBreak left = emptyAt 4 false (record { 0 = left })
 

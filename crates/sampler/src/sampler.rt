@@ -19,7 +19,7 @@ use crate::state::starting_at;
 use frame::Bits;
 use frame::Pulses;
 ghost use mathlib.Core.Path.{_≡_};
-ghost use Rattle.sampler.specs.Sampler.{still, confirmed, lowAt, hunted, started, arrived, finished, sampled, assembled, followed, ended, waited, sampleOf};
+ghost use Rattle.sampler.specs.Sampler.{still, confirmed, lowAt, hunted, lookedAgain, arrived, finished, sampled, assembled, followed, ended, waited, sampleOf};
 
 // A character that arrived, if any.
 pub enum Came {
@@ -54,14 +54,7 @@ fn confirm_start(setting: Setting) -> Sampled
     ensures { λ r. ⌜ r ≡ confirmed setting ⌝ }
 {
     Sampled {
-        next: Sampler {
-            phase: ASSEMBLING,
-            high: false,
-            left: gap(setting.sixteen),
-            setting: setting,
-            taken: Bits(0),
-            value: 0,
-        },
+        next: assembling_at(setting, gap(setting.sixteen), Bits(0), 0),
         started: true,
         came: Came::NoCharacter,
         change: false,
@@ -92,8 +85,8 @@ fn hunt(sampler: Sampler, level: bool, setting: Setting) -> Sampled
 }
 
 // "at p+8 it must still be low, else hunt again"
-fn start(sampler: Sampler, level: bool) -> Sampled
-    ensures { λ r. ⌜ r ≡ started sampler level ⌝ }
+fn look_again(sampler: Sampler, level: bool) -> Sampled
+    ensures { λ r. ⌜ r ≡ lookedAgain sampler level ⌝ }
 {
     if sampler.left.0 == 0 {
         if level {
@@ -215,7 +208,7 @@ pub fn sample(sampler: Sampler, level: bool, setting: Setting) -> Sampled
     ensures { λ r. ⌜ r ≡ sampleOf sampler level setting ⌝ }
 {
     if sampler.phase == STARTING {
-        return start(sampler, level);
+        return look_again(sampler, level);
     }
     if sampler.phase == ASSEMBLING {
         return assemble(sampler, level);

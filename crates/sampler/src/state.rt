@@ -24,7 +24,7 @@ pub const STARTING: u8 = 1;
 // a start was confirmed: the character is being put together
 pub const ASSEMBLING: u8 = 2;
 
-// the 8 pulses, or the one, next to a low stop
+// the 8 pulses, or the one, after a low stop
 pub const AFTER_LOW_STOP: u8 = 3;
 
 // the wait for a break's end
@@ -35,7 +35,7 @@ pub struct Sampler {
     pub phase: u8,
     // hunting: the last sample was high
     pub high: bool,
-    // pulses still to pass before the one that is looked at, so 0 means the next one is
+    // the pulses still to come before the one that decides, so 0 means the next one does
     pub left: Pulses,
     // taken at the low pulse p
     pub setting: Setting,
@@ -81,7 +81,7 @@ pub fn hunting_after(high: bool) -> Sampler
 pub fn drop_assembly() -> Sampler
     ensures { λ r. ⌜ r ≡ hunting false ⌝ }
 {
-    empty_at(HUNTING, false, Pulses(0))
+    hunting_after(false)
 }
 
 // A sampler between the low at p and the pulse p+8.

@@ -13,7 +13,7 @@ use Rattle.frame.specs.Pick.{pick}
 use Rattle.frame.proofs.Laws.Pick.{pick-all}
 use Rattle.sampler.specs.declared.character.Character.{Character}
 use Rattle.receiver.specs.declared.queue.Queue.{Queue}
-use Rattle.receiver.specs.Queue.{put, waits, withoutWaiting, took, replaced, heldOf, emptyQueue, isEmptyOf, oldestOf, waitsOf, putOf, withoutWaitingOf, tookOf, replacedOf}
+use Rattle.receiver.specs.Queue.{put, waits, withoutWaiting, took, replaced, heldOf, emptyQueue, isEmptyOf, isFullOf, oldestOf, waitsOf, putOf, withoutWaitingOf, tookOf, replacedOf}
 
 -- what holds at the numbers up to three, or up to four
 to-three : (P : ℕ → Type 0) → P 0 → P 1 → P 2 → P 3 → (n : ℕ) → n ≤ 3 → P n
@@ -64,6 +64,10 @@ held-empty = refl
 
 pub waits-held : (q : Queue) → q .count ≤ 4 → waitsOf q ≡ waits (heldOf q)
 waits-held q h = rw (held-length q h)
+
+-- "FFULL: three in the queue."
+pub full-held : (q : Queue) → q .count ≤ 4 → isFullOf q ≡ leb 3 (length (heldOf q))
+full-held q h = rw (held-length q h)
 
 -- ---- the oldest ----
 

@@ -4,7 +4,7 @@ use Prim.Native.Nat.{_≤_}
 use mathlib.Core.Path.{_≡_}
 use mathlib.Core.Bool.{Bool, true, false, and-eq-true-iff}
 use native.Mathlib.Omega.{arith}
-use lib.Dec.{eqb, leb}
+use lib.Dec.{eqb}
 use borrow.Author.Tests.{leb-true, le-leb}
 use Rattle.frame.proofs.Laws.Pick.{pick-all}
 use Rattle.sampler.specs.declared.character.Character.{Character}
@@ -17,51 +17,38 @@ use Rattle.sampler.specs.Sound.{settingInRange, samplerInRange}
 use Rattle.sampler.proofs.Laws.Ranges.{sample-keeps, hunting-keeps}
 use Rattle.receiver.specs.declared.queue.Queue.{Queue}
 use Rattle.receiver.specs.declared.receiver.Effect.{Effect}
-use Rattle.receiver.specs.declared.receiver.Effect.the-variants.{NoEffect, Reset, ClearErrors, ClearChange}
+use Rattle.receiver.specs.declared.receiver.Effect.the-variants.{NoEffect, Reset, ClearErrors, ClearBreakChange}
 use Rattle.receiver.specs.declared.receiver.Fed.{Fed}
 use Rattle.receiver.specs.declared.receiver.Feed.{Feed}
 use Rattle.receiver.specs.declared.receiver.Feed.the-variants.{Nothing, Pulse, Command, Read, ChipReset}
 use Rattle.receiver.specs.declared.receiver.Receiver.{Receiver}
-use Rattle.receiver.specs.declared.receiver.Turn.{Turn}
-use Rattle.receiver.specs.declared.receiver.Turn.the-variants.{Stays, TurnsOn, TurnsOff}
-use Rattle.receiver.specs.Queue.{isEmptyOf, putOf, withoutWaitingOf, tookOf}
-use Rattle.receiver.specs.Receiver.{heardOf, startedOf, enteredOf, arrivedOf, pulsedOf, effectOf, turnedOf, oldestRead, readOf, fedOf}
+use Rattle.receiver.specs.declared.receiver.Enabling.{Enabling}
+use Rattle.receiver.specs.declared.receiver.Enabling.the-variants.{Stays, Enables, Disables}
+use Rattle.receiver.specs.Queue.{isEmptyOf, putOf}
+use Rattle.receiver.specs.Receiver.{heardOf, startedOf, enteredOf, arrivedOf, pulsedOf, effectOf, enablingOf, oldestRead, readOf, fedOf}
 use Rattle.receiver.specs.Sound.{receiverInRange, feedInRange}
+use Rattle.receiver.proofs.Laws.Queue.{without-waiting-count, took-count}
 
 record Inside (r : Receiver) : Type 0 where
   sampler : samplerInRange (r .sampler) ≡ true
   queue : r .queue .count ≤ 4
 
--- ---- the queue ----
-
-abbrev Four : Queue → Type 0
-Four q = q .count ≤ 4
-
-put-four : (q : Queue) (c : Character) → Four q → Four (putOf q c)
+-- a put never counts past four, whatever it finds
+put-four : (q : Queue) (c : Character) → putOf q c .count ≤ 4
 unfolding putOf
-put-four q c h =
-    pick-all Four (eqb (q .count) 0) _ _ (omega arith)
-    (pick-all Four (eqb (q .count) 1) _ _ (omega arith)
-    (pick-all Four (eqb (q .count) 2) _ _ (omega arith) (pick-all Four (eqb (q .count) 3) _ _ (omega arith) h)))
-
-without-waiting-four : (q : Queue) → Four q → Four (withoutWaitingOf q)
-unfolding withoutWaitingOf
-without-waiting-four q h = pick-all Four (leb 4 (q .count)) _ _ (omega arith) h
-
-took-four : (q : Queue) → Four q → Four (tookOf q)
-unfolding tookOf
-took-four q h = pick-all Four (eqb (q .count) 0) _ _ h (omega arith)
-
--- ---- the receiver ----
+put-four q c =
+    pick-all (λ (k : Queue). k .count ≤ 4) (eqb (q .count) 0) _ _ (omega arith)
+    (pick-all (λ (k : Queue). k .count ≤ 4) (eqb (q .count) 1) _ _ (omega arith)
+    (pick-all (λ (k : Queue). k .count ≤ 4) (eqb (q .count) 2) _ _ (omega arith) (omega arith)))
 
 started-inside : (r : Receiver) (t : Bool) → Inside r → Inside (startedOf r t)
 unfolding startedOf
-started-inside r t h = pick-all Inside t _ _ (record { sampler = h .sampler; queue = without-waiting-four (r .queue) (h .queue) }) h
+started-inside r t h = pick-all Inside t _ _ (record { sampler = h .sampler; queue = rw (without-waiting-count (r .queue)) (omega arith) }) h
 
 arrived-inside : (r : Receiver) (o : Came) → Inside r → Inside (arrivedOf r o)
 unfolding arrivedOf enteredOf
 arrived-inside r NoCharacter h = h
-arrived-inside r (Arrival c) h = record { sampler = h .sampler; queue = put-four (r .queue) c (h .queue) }
+arrived-inside r (Arrival c) h = record { sampler = h .sampler; queue = put-four (r .queue) c }
 
 pulsed-inside : (r : Receiver) (level : Bool) (f : Setting) → Inside r → settingInRange f ≡ true → Inside (pulsedOf r level f)
 unfolding pulsedOf
@@ -75,24 +62,24 @@ unfolding effectOf
 effect-inside r NoEffect h = h
 effect-inside r Reset h = record { sampler = hunting-keeps false; queue = omega arith }
 effect-inside r ClearErrors h = record { sampler = h .sampler; queue = h .queue }
-effect-inside r ClearChange h = record { sampler = h .sampler; queue = h .queue }
+effect-inside r ClearBreakChange h = record { sampler = h .sampler; queue = h .queue }
 
-turned-inside : (r : Receiver) (t : Turn) → Inside r → Inside (turnedOf r t)
-unfolding turnedOf
-turned-inside r Stays h = h
-turned-inside r TurnsOn h = record { sampler = hunting-keeps false; queue = h .queue }
-turned-inside r TurnsOff h = record { sampler = hunting-keeps false; queue = h .queue }
+enabling-inside : (r : Receiver) (t : Enabling) → Inside r → Inside (enablingOf r t)
+unfolding enablingOf
+enabling-inside r Stays h = h
+enabling-inside r Enables h = record { sampler = hunting-keeps false; queue = h .queue }
+enabling-inside r Disables h = record { sampler = hunting-keeps false; queue = h .queue }
 
 read-inside : (r : Receiver) → Inside r → Inside (readOf r .receiver)
 unfolding readOf oldestRead
 read-inside r h =
-    pick-all (λ (n : Fed). Inside (n .receiver)) (isEmptyOf (r .queue)) _ _ h (record { sampler = h .sampler; queue = took-four (r .queue) (h .queue) })
+    pick-all (λ (n : Fed). Inside (n .receiver)) (isEmptyOf (r .queue)) _ _ h (record { sampler = h .sampler; queue = took-count (r .queue) 4 (h .queue) })
 
 fed-inside : (r : Receiver) (e : Feed) → Inside r → feedInRange e ≡ true → Inside (fedOf r e .receiver)
 unfolding fedOf
 fed-inside r Nothing h k = h
 fed-inside r (Pulse level f) h k = pulsed-inside r level f h k
-fed-inside r (Command e t) h k = turned-inside (effectOf r e) t (effect-inside r e h)
+fed-inside r (Command e t) h k = enabling-inside (effectOf r e) t (effect-inside r e h)
 fed-inside r Read h k = read-inside r h
 fed-inside r ChipReset h k = record { sampler = hunting-keeps false; queue = omega arith }
 

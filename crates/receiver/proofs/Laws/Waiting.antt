@@ -11,18 +11,18 @@ use Rattle.frame.proofs.Laws.Pick.{pick-all}
 use Rattle.sampler.specs.declared.sampler.Came.{Came}
 use Rattle.sampler.specs.declared.sampler.Came.the-variants.{NoCharacter, Arrival}
 use Rattle.sampler.specs.declared.sampler.Sampled.{Sampled}
-use Rattle.sampler.specs.Sampler.{started, sampleOf}
+use Rattle.sampler.specs.Sampler.{sampleOf}
 use Rattle.sampler.proofs.Laws.Room.{most, most-four, cut, grown, Roomy, room-sample}
 use Rattle.receiver.specs.declared.receiver.Effect.{Effect}
-use Rattle.receiver.specs.declared.receiver.Effect.the-variants.{NoEffect, Reset, ClearErrors, ClearChange}
+use Rattle.receiver.specs.declared.receiver.Effect.the-variants.{NoEffect, Reset, ClearErrors, ClearBreakChange}
 use Rattle.receiver.specs.declared.receiver.Fed.{Fed}
 use Rattle.receiver.specs.declared.receiver.Feed.{Feed}
 use Rattle.receiver.specs.declared.receiver.Feed.the-variants.{Nothing, Pulse, Command, Read, ChipReset}
 use Rattle.receiver.specs.declared.receiver.Receiver.{Receiver}
-use Rattle.receiver.specs.declared.receiver.Turn.{Turn}
-use Rattle.receiver.specs.declared.receiver.Turn.the-variants.{Stays, TurnsOn, TurnsOff}
+use Rattle.receiver.specs.declared.receiver.Enabling.{Enabling}
+use Rattle.receiver.specs.declared.receiver.Enabling.the-variants.{Stays, Enables, Disables}
 use Rattle.receiver.specs.Queue.{isEmptyOf}
-use Rattle.receiver.specs.Receiver.{heardOf, startedOf, enteredOf, arrivedOf, pulsedOf, effectOf, turnedOf, oldestRead, readOf, fedOf}
+use Rattle.receiver.specs.Receiver.{heardOf, startedOf, enteredOf, arrivedOf, pulsedOf, effectOf, enablingOf, oldestRead, readOf, fedOf}
 use Rattle.receiver.specs.Sound.{queueInRange, waitingSound}
 use Rattle.receiver.proofs.Laws.Queue.{put-count, without-waiting-count, took-count}
 
@@ -66,13 +66,13 @@ unfolding effectOf
 effect-room r NoEffect h = h
 effect-room r Reset h = omega arith
 effect-room r ClearErrors h = h
-effect-room r ClearChange h = h
+effect-room r ClearBreakChange h = h
 
-turned-room : (r : Receiver) (t : Turn) → Room r → Room (turnedOf r t)
-unfolding turnedOf pick
-turned-room r Stays h = h
-turned-room r TurnsOn h = omega (arith, most-four (r .sampler))
-turned-room r TurnsOff h = omega (arith, most-four (r .sampler))
+enabling-room : (r : Receiver) (t : Enabling) → Room r → Room (enablingOf r t)
+unfolding enablingOf pick
+enabling-room r Stays h = h
+enabling-room r Enables h = omega (arith, most-four (r .sampler))
+enabling-room r Disables h = omega (arith, most-four (r .sampler))
 
 read-room : (r : Receiver) → Room r → Room (readOf r .receiver)
 unfolding readOf oldestRead
@@ -82,7 +82,7 @@ pub fed-room : (r : Receiver) (e : Feed) → Room r → Room (fedOf r e .receive
 unfolding fedOf pulsedOf
 fed-room r Nothing h = h
 fed-room r (Pulse level f) h = answered-room r (sampleOf (r .sampler) level f) (room-sample (r .queue .count) (r .sampler) level f h)
-fed-room r (Command e t) h = turned-room (effectOf r e) t (effect-room r e h)
+fed-room r (Command e t) h = enabling-room (effectOf r e) t (effect-room r e h)
 fed-room r Read h = read-room r h
 fed-room r ChipReset h = omega arith
 

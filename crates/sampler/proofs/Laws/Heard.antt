@@ -23,14 +23,18 @@ use Rattle.sampler.specs.declared.state.Setting.{Setting}
 use Rattle.sampler.specs.Character.{clean}
 use Rattle.sampler.specs.Assembly.{samplesOf, withSample, characterOf}
 use Rattle.sampler.specs.State.{hunting, assembling, gapOf, afterStop}
-use Rattle.sampler.specs.Sampler.{lowAt, hunted, started, finished, sampled, assembled, sampleOf}
+use Rattle.sampler.specs.Sampler.{lowAt, hunted, lookedAgain, finished, sampled, assembled, sampleOf}
 use Rattle.sampler.specs.Lines.{at16}
 use Rattle.sampler.proofs.Laws.Assembly.{samples-are, with-sample-small, with-sample-adds, sampled-clean}
 
--- what a sampler says, in order: a confirmed start, or an arrival
+-- what a sampler says, in order: break change, a confirmed start, or an arrival
 pub data Said : Type 0 where
-  began : Said
+  changes began : Said
   came : Character → Said
+
+abbrev pub changing : Bool → List Said
+changing true = changes ∷ []
+changing false = []
 
 abbrev pub begun : Bool → List Said
 begun true = began ∷ []
@@ -43,7 +47,8 @@ coming (Arrival c) = came c ∷ []
 -- over levels, one a pulse, in one setting
 unfoldable pub heard : Setting → Sampler → List Bool → List Said
 heard f s [] = []
-heard f s (b ∷ ls) = begun (sampleOf s b f .started) ++ (coming (sampleOf s b f .came) ++ heard f (sampleOf s b f .next) ls)
+heard f s (b ∷ ls) =
+    changing (sampleOf s b f .change) ++ (begun (sampleOf s b f .started) ++ (coming (sampleOf s b f .came) ++ heard f (sampleOf s b f .next) ls))
 
 unfoldable pub reached : Setting → Sampler → List Bool → Sampler
 reached f s [] = s
@@ -62,7 +67,7 @@ reached-append f s (l ∷ a) b = reached-append f (sampleOf s l f .next) a b
 heard-append : (f : Setting) (s : Sampler) (a b : List Bool) → heard f s (a ++ b) ≡ heard f s a ++ heard f (reached f s a) b
 unfolding heard reached
 heard-append f s [] b = refl
-heard-append f s (l ∷ a) b = rw (heard-append f (sampleOf s l f .next) a b, append-assoc, append-assoc)
+heard-append f s (l ∷ a) b = rw (heard-append f (sampleOf s l f .next) a b, append-assoc, append-assoc, append-assoc)
 
 ran-then : {f : Setting} {s t u : Sampler} {a b : List Bool} {x y : List Said} → Ran f s a x t → Ran f t b y u → Ran f s (a ++ b) (x ++ y) u
 ran-then {f} {s} {t} {u} {a} {b} h k =
@@ -80,7 +85,7 @@ module _ (f : Format) where
   under left k v = assembling (at16 f) (record { 0 = left }) (record { 0 = k }) v
 
   start : Ran (at16 f) (hunting true) (replicate 16 false) (began ∷ []) (under 8 0 0)
-  unfolding heard reached sampleOf hunted lowAt started assembled gapOf pick
+  unfolding heard reached sampleOf hunted lowAt lookedAgain assembled gapOf pick
   start = record { says = refl; ends = refl }
 
   first-half : (b : Bool) (k v : ℕ) → Ran (at16 f) (under 8 k v) (replicate 8 b) [] (under 0 k v)

@@ -18,7 +18,7 @@ use Rattle.sampler.specs.declared.state.Sampler.{Sampler}
 use Rattle.sampler.specs.declared.state.Setting.{Setting}
 use Rattle.sampler.specs.Assembly.{samplesOf, withSample}
 use Rattle.sampler.specs.State.{emptyAt, hunting, starting, assembling, gapOf, afterStop}
-use Rattle.sampler.specs.Sampler.{confirmed, lowAt, hunted, started, finished, sampled, assembled, followed, waited, sampleOf}
+use Rattle.sampler.specs.Sampler.{confirmed, lowAt, hunted, lookedAgain, finished, sampled, assembled, followed, waited, sampleOf}
 use Rattle.sampler.specs.Sound.{settingInRange, samplerInRange}
 use Rattle.sampler.proofs.Laws.Assembly.{samples-most, with-sample-small}
 
@@ -65,8 +65,8 @@ unfolding hunted
 hunted-within s level f h =
     pick-all Next level _ _ (hunting-within true) (pick-all Next (s .high) _ _ (low-within f h) (hunting-within false))
 
-started-within : (s : Sampler) (level : Bool) → Within s → Next (started s level)
-unfolding started
+started-within : (s : Sampler) (level : Bool) → Within s → Next (lookedAgain s level)
+unfolding lookedAgain
 started-within s level h =
     let l = h .left in
     pick-all Next (eqb (s .left .0) 0) _ _

@@ -13,7 +13,7 @@ use Rattle.sampler.specs.declared.state.Sampler.{Sampler}
 use Rattle.sampler.specs.declared.state.Setting.{Setting}
 use Rattle.sampler.specs.Assembly.{samplesOf}
 use Rattle.sampler.specs.State.{afterStop}
-use Rattle.sampler.specs.Sampler.{confirmed, lowAt, hunted, started, arrived, finished, sampled, assembled, followed, waited, sampleOf}
+use Rattle.sampler.specs.Sampler.{confirmed, lowAt, hunted, lookedAgain, arrived, finished, sampled, assembled, followed, waited, sampleOf}
 
 -- three while a confirmed start is under way, else four
 abbrev pub most : Sampler → ℕ
@@ -48,8 +48,8 @@ room-hunted : (n : ℕ) (s : Sampler) (level : Bool) (f : Setting) → n ≤ 4 �
 unfolding hunted pick
 room-hunted n s level f h = pick-all (Roomy n) level _ _ h (pick-all (Roomy n) (s .high) _ _ (room-low n f h) h)
 
-room-started : (n : ℕ) (s : Sampler) (level : Bool) → n ≤ 4 → Roomy n (started s level)
-unfolding started pick
+room-started : (n : ℕ) (s : Sampler) (level : Bool) → n ≤ 4 → Roomy n (lookedAgain s level)
+unfolding lookedAgain pick
 room-started n s level h = pick-all (Roomy n) (eqb (s .left .0) 0) _ _ (pick-all (Roomy n) level _ _ h (room-confirmed n (s .setting))) h
 
 room-arrived : (n : ℕ) (f : Setting) (v : ℕ) (stop : Bool) → n ≤ 3 → Roomy n (arrived f v stop)

@@ -20,9 +20,5 @@ returns-4 : tie.Need-returns-4
 unfolding putOf
 returns-4 c = search steps
 
-returns-5 : tie.Need-returns-5
-unfolding putOf
-returns-5 c = search steps
-
 pub put-spec : {M : Type 1} → statement M
-put-spec = tie.close (tie.spec returns returns-2 returns-3 returns-4 returns-5)
+put-spec = tie.close (tie.spec returns returns-2 returns-3 returns-4)

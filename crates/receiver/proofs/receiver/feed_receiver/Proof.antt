@@ -25,8 +25,8 @@ enum-known-feed-2 c = search needs
 take-effect-requires : tie.Need-take-effect-requires
 take-effect-requires c κs = search needs
 
-switch-requires : tie.Need-switch-requires
-switch-requires c κs = search needs
+take-enabling-requires : tie.Need-take-enabling-requires
+take-enabling-requires c κs = search needs
 
 no-read-requires-3 : tie.Need-no-read-requires-3
 no-read-requires-3 c κs = search needs
@@ -56,7 +56,7 @@ returns-2 c = simp (c .no-read2 .ensures, c .before .pulse .ensures, c .before .
 
 returns-3 : tie.Need-returns-3
 unfolding fedOf
-returns-3 c = simp (c .no-read3 .ensures, c .before .switch .ensures, c .before .before .take-effect .ensures, c .before .before .before .before .feed2 .given .1)
+returns-3 c = simp (c .no-read3 .ensures, c .before .take-enabling .ensures, c .before .before .take-effect .ensures, c .before .before .before .before .feed2 .given .1)
 
 returns-4 : tie.Need-returns-4
 unfolding fedOf
@@ -77,7 +77,7 @@ feed-receiver-spec =
     no-read-requires-2
     enum-known-feed-2
     take-effect-requires
-    switch-requires
+    take-enabling-requires
     no-read-requires-3
     enum-told-2
     read-requires

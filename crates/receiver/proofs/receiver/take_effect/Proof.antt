@@ -22,8 +22,8 @@ clear-errors-requires c κs = search needs
 enum-told-4 : tie.Need-enum-told-4
 enum-told-4 c = search needs
 
-clear-change-requires : tie.Need-clear-change-requires
-clear-change-requires c κs = search needs
+clear-break-change-requires : tie.Need-clear-break-change-requires
+clear-break-change-requires c κs = search needs
 
 returns : tie.Need-returns
 unfolding effectOf
@@ -39,7 +39,7 @@ returns-3 c = simp (c .clear-errors .ensures, c .before .enum-told3 .given .1)
 
 returns-4 : tie.Need-returns-4
 unfolding effectOf
-returns-4 c = simp (c .clear-change .ensures, c .before .enum-told4 .given .1)
+returns-4 c = simp (c .clear-break-change .ensures, c .before .enum-told4 .given .1)
 
 pub take-effect-spec : {M : Type 1} → statement M
 take-effect-spec =
@@ -51,7 +51,7 @@ take-effect-spec =
     enum-told-3
     clear-errors-requires
     enum-told-4
-    clear-change-requires
+    clear-break-change-requires
     returns
     returns-2
     returns-3

@@ -5,12 +5,12 @@ use Rattle.sampler.specs.Sampler.{sampleOf}
 use Rattle.sampler.proofs.sampler.sample.Statement.{statement}
 use Rattle.sampler.proofs.sampler.sample.Tie as tie
 
-start-requires : tie.Need-start-requires
-start-requires c κs = search needs
+look-again-requires : tie.Need-look-again-requires
+look-again-requires c κs = search needs
 
 returns : tie.Need-returns
 unfolding sampleOf
-returns c = simp (c .start .ensures) (search steps)
+returns c = simp (c .look-again .ensures) (search steps)
 
 assemble-requires : tie.Need-assemble-requires
 assemble-requires c κs = search needs
@@ -44,7 +44,7 @@ pub sample-spec : {M : Type 1} → statement M
 sample-spec =
     tie.close
     (tie.spec
-    start-requires
+    look-again-requires
     returns
     assemble-requires
     returns-2

@@ -3,11 +3,11 @@ use borrow.Author.Needs.{needs}
 use Rattle.sampler.proofs.state.drop_assembly.Statement.{statement}
 use Rattle.sampler.proofs.state.drop_assembly.Tie as tie
 
-empty-at-requires : tie.Need-empty-at-requires
-empty-at-requires c κs = search needs
+hunting-after-requires : tie.Need-hunting-after-requires
+hunting-after-requires c κs = search needs
 
 returns : tie.Need-returns
-returns c = simp (c .empty-at .ensures)
+returns c = simp (c .hunting-after .ensures)
 
 pub drop-assembly-spec : {M : Type 1} → statement M
-drop-assembly-spec = tie.close (tie.spec empty-at-requires returns)
+drop-assembly-spec = tie.close (tie.spec hunting-after-requires returns)

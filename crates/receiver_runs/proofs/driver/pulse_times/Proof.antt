@@ -1,8 +1,8 @@
 -- `pulse_times` is safe and ends: the pulses still to send grow fewer. Assumes nothing.
 use Prim.Native.Nat.{_≤_, _-_}
 use borrow.Author.Needs.{needs}
-use Rattle.receiver_runs.proofs.pulse_times.Statement.{statement}
-use Rattle.receiver_runs.proofs.pulse_times.Tie as tie
+use Rattle.receiver_runs.proofs.driver.pulse_times.Statement.{statement}
+use Rattle.receiver_runs.proofs.driver.pulse_times.Tie as tie
 
 abbrev Inv-loop : tie.InvT-loop
 Inv-loop level times d₀ i₀ d i = i ≤ times

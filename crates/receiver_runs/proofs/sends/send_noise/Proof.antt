@@ -1,8 +1,8 @@
 -- `send_noise` is safe and ends: the bits still to send grow fewer. Assumes nothing.
 use Prim.Native.Nat.{_≤_, _-_}
 use borrow.Author.Needs.{needs}
-use Rattle.receiver_runs.proofs.send_noise.Statement.{statement}
-use Rattle.receiver_runs.proofs.send_noise.Tie as tie
+use Rattle.receiver_runs.proofs.sends.send_noise.Statement.{statement}
+use Rattle.receiver_runs.proofs.sends.send_noise.Tie as tie
 
 abbrev Inv-loop : tie.InvT-loop
 Inv-loop d₀ i₀ d i = i ≤ 11

@@ -1,9 +1,9 @@
--- `start` meets its contract: each way through the tests is the definition's, with the callee's answer. Assumes nothing.
+-- `look_again` meets its contract: each way through the tests is the definition's, with the callee's answer. Assumes nothing.
 use borrow.Author.Needs.{needs}
 use Rattle.frame.proofs.Laws.{steps}
-use Rattle.sampler.specs.Sampler.{started}
-use Rattle.sampler.proofs.sampler.start.Statement.{statement}
-use Rattle.sampler.proofs.sampler.start.Tie as tie
+use Rattle.sampler.specs.Sampler.{lookedAgain}
+use Rattle.sampler.proofs.sampler.look_again.Statement.{statement}
+use Rattle.sampler.proofs.sampler.look_again.Tie as tie
 
 hunting-after-requires : tie.Need-hunting-after-requires
 hunting-after-requires c κs = search needs
@@ -12,14 +12,14 @@ quiet-requires : tie.Need-quiet-requires
 quiet-requires c κs = search needs
 
 returns : tie.Need-returns
-unfolding started
+unfolding lookedAgain
 returns c = simp (c .quiet .ensures, c .before .hunting-after .ensures) (search steps)
 
 confirm-start-requires : tie.Need-confirm-start-requires
 confirm-start-requires c κs = search needs
 
 returns-2 : tie.Need-returns-2
-unfolding started
+unfolding lookedAgain
 returns-2 c = simp (c .confirm-start .ensures) (search steps)
 
 sub-t7 : tie.Need-sub-t7
@@ -32,11 +32,11 @@ quiet-requires-2 : tie.Need-quiet-requires-2
 quiet-requires-2 c κs = search needs
 
 returns-3 : tie.Need-returns-3
-unfolding started
+unfolding lookedAgain
 returns-3 c = simp (c .quiet2 .ensures, c .before .starting-at .ensures) (search steps)
 
-pub start-spec : {M : Type 1} → statement M
-start-spec =
+pub look-again-spec : {M : Type 1} → statement M
+look-again-spec =
     tie.close
     (tie.spec
     hunting-after-requires

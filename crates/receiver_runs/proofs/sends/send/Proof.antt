@@ -1,8 +1,8 @@
 -- `send` is safe and ends: the bits still to send grow fewer. Assumes nothing.
 use Prim.Native.Nat.{_≤_, _-_}
 use borrow.Author.Needs.{needs}
-use Rattle.receiver_runs.proofs.send.Statement.{statement}
-use Rattle.receiver_runs.proofs.send.Tie as tie
+use Rattle.receiver_runs.proofs.sends.send.Statement.{statement}
+use Rattle.receiver_runs.proofs.sends.send.Tie as tie
 
 abbrev Inv-loop : tie.InvT-loop
 Inv-loop byte bits inverted sent d₀ i₀ d i = i ≤ bits

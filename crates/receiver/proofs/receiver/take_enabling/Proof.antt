@@ -1,8 +1,8 @@
--- `switch` meets its contract: one arm a turn, each the callee's answer. Assumes nothing.
+-- `take_enabling` meets its contract: one arm a case, each the callee's answer. Assumes nothing.
 use borrow.Author.Needs.{needs}
-use Rattle.receiver.specs.Receiver.{turnedOf}
-use Rattle.receiver.proofs.receiver.switch.Statement.{statement}
-use Rattle.receiver.proofs.receiver.switch.Tie as tie
+use Rattle.receiver.specs.Receiver.{enablingOf}
+use Rattle.receiver.proofs.receiver.take_enabling.Statement.{statement}
+use Rattle.receiver.proofs.receiver.take_enabling.Tie as tie
 
 enum-told : tie.Need-enum-told
 enum-told c = search needs
@@ -20,19 +20,19 @@ drop-character-requires-2 : tie.Need-drop-character-requires-2
 drop-character-requires-2 c κs = search needs
 
 returns : tie.Need-returns
-unfolding turnedOf
+unfolding enablingOf
 returns c = simp (c .enum-told .given .1)
 
 returns-2 : tie.Need-returns-2
-unfolding turnedOf
+unfolding enablingOf
 returns-2 c = simp (c .drop-character .ensures, c .before .enum-told2 .given .1)
 
 returns-3 : tie.Need-returns-3
-unfolding turnedOf
+unfolding enablingOf
 returns-3 c = simp (c .drop-character2 .ensures, c .before .enum-told3 .given .1)
 
-pub switch-spec : {M : Type 1} → statement M
-switch-spec =
+pub take-enabling-spec : {M : Type 1} → statement M
+take-enabling-spec =
     tie.close
     (tie.spec
     enum-told

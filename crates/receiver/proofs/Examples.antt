@@ -1,0 +1,93 @@
+-- What the theorems assume is met by receivers that come about, and cases 7, 8 and 9 of document 01 as one receiver sees them: each is
+-- computed. Assumes nothing.
+use Prim.Native.Nat.{ℕ}
+use mathlib.Core.Path.{_≡_, refl}
+use mathlib.Core.Bool.{Bool, true, false}
+use mathlib.Core.List.{List, [], _∷_, _++_, map}
+use lib.ListN.{replicate}
+use Rattle.frame.specs.declared.format.Format.{Format}
+use Rattle.frame.specs.Digits.{bitsOf}
+use Rattle.frame.specs.Format.{formatOf}
+use Rattle.frame.specs.Levels.{beforeStop, spread, levels}
+use Rattle.frame.specs.Parity.{parityBits}
+use Rattle.frame.specs.Pick.{pick}
+use Rattle.sampler.specs.declared.character.Character.{Character}
+use Rattle.sampler.specs.Character.{noMarks}
+use Rattle.sampler.specs.Assembly.{dataWidthOf, samplesOf, withSample, characterOf, parityWrongOf}
+use Rattle.sampler.specs.Lines.{at16}
+use Rattle.sampler.specs.State.{gapOf, afterStop}
+use Rattle.sampler.specs.Sampler.{lowAt, hunted, lookedAgain, finished, sampled, assembled, sampleOf}
+use Rattle.receiver.specs.declared.receiver.Effect.the-variants.{NoEffect, Reset}
+use Rattle.receiver.specs.declared.receiver.Feed.{Feed}
+use Rattle.receiver.specs.declared.receiver.Feed.the-variants.{Pulse, Command, Read}
+use Rattle.receiver.specs.declared.receiver.Receiver.{Receiver}
+use Rattle.receiver.specs.declared.receiver.Enabling.the-variants.{Stays, Enables}
+use Rattle.receiver.specs.Delivery.{after, given, reads}
+use Rattle.receiver.specs.Queue.{heldOf, waitsOf, putOf, withoutWaitingOf, tookOf}
+use Rattle.receiver.specs.ReadBack.{pulses, sentAll, Idle}
+use Rattle.receiver.specs.Receiver.{freshReceiver, oldestMarks, startedOf, enteredOf, arrivedOf, pulsedOf, effectOf, enablingOf, oldestRead, readOf, fedOf}
+use Rattle.receiver.specs.Sound.{receiverInRange, waitingSound}
+use Rattle.receiver.specs.Status.{shownMarks, statusOf}
+
+-- MR1 19: 8 data bits, no parity
+abbrev eight : Format
+eight = formatOf 19
+
+-- a receiver that is enabled and has seen a high, and then some feeds
+abbrev fed : List Feed → Receiver
+fed es = after fedOf freshReceiver (Command NoEffect Enables ∷ Pulse true (at16 eight) ∷ es)
+
+abbrev byteOf : Character → ℕ
+byteOf c = c .byte
+
+-- ---- what is assumed is met ----
+
+-- a chip reset leaves a receiver in range, with the rule on the waiting place
+fresh-met : (receiverInRange freshReceiver ≡ true) × (waitingSound freshReceiver ≡ true)
+unfolding formatOf
+fresh-met = (refl, refl)
+
+-- the read-back's receiver: idle, and empty
+idle-met : Idle (fed [] .sampler) × (heldOf (fed [] .queue) ≡ [])
+unfolding heldOf after fedOf effectOf enablingOf pulsedOf startedOf arrivedOf sampleOf hunted pick
+idle-met = (record { hunts = refl; high = refl }, refl)
+
+-- ---- the cases ----
+
+abbrev four : List Feed
+four = sentAll eight 16 (1 ∷ 2 ∷ 3 ∷ 4 ∷ [])
+
+abbrev lows : ℕ → List Feed
+lows n = pulses (at16 eight) (replicate n false)
+
+-- SR bits 4, 1 and 0
+abbrev bits : Receiver → List Bool
+bits r = statusOf r false .overrun ∷ statusOf r false .full ∷ statusOf r false .ready ∷ []
+
+-- "Receiver only, 1, 2, 3, 4 arrive: SR 3; next start: SR 19; 5 arrives: reads 1, 2, 3, 5." The start counts when it is confirmed, at
+-- p+8. One waits until then, and no confirmed start is under way.
+record Case7 : Type 0 where
+  arrived : bits (fed four) ≡ false ∷ true ∷ true ∷ []
+  unmarked : shownMarks (fed four) false ≡ noMarks
+  waits : waitsOf (fed four .queue) ≡ true
+  sound : waitingSound (fed four) ≡ true
+  before : bits (fed (four ++ lows 8)) ≡ false ∷ true ∷ true ∷ []
+  started : bits (fed (four ++ lows 9)) ≡ true ∷ true ∷ true ∷ []
+  read : map byteOf (reads fedOf statusOf (fed four) (sentAll eight 16 (5 ∷ []) ++ (Read ∷ Read ∷ Read ∷ Read ∷ Read ∷ []))) ≡ 1 ∷ 2 ∷ 3 ∷ 5 ∷ []
+
+case-7 : Case7
+unfolding shownMarks oldestMarks reads given oldestRead readOf tookOf after fedOf effectOf enablingOf pulsedOf startedOf arrivedOf enteredOf putOf withoutWaitingOf sampleOf hunted lowAt lookedAgain assembled sampled finished afterStop gapOf dataWidthOf samplesOf withSample characterOf parityWrongOf formatOf levels spread beforeStop parityBits bitsOf pick
+case-7 = record { arrived = refl; unmarked = refl; waits = refl; sound = refl; before = refl; started = refl; read = refl }
+
+-- "Four arrive unread, receiver reset: SR 0, read 0."
+abbrev reset : Receiver
+reset = fed (four ++ (Command Reset Stays ∷ []))
+
+case-8 : (bits reset ≡ false ∷ false ∷ false ∷ []) × (heldOf (reset .queue) ≡ []) × (fedOf reset Read .byte ≡ 0)
+unfolding heldOf readOf after fedOf effectOf enablingOf pulsedOf startedOf arrivedOf enteredOf putOf withoutWaitingOf sampleOf hunted lowAt lookedAgain assembled sampled finished afterStop gapOf dataWidthOf samplesOf formatOf levels spread beforeStop parityBits bitsOf pick
+case-8 = (refl, refl, refl)
+
+-- "Low 8 pulses, high at p+8: nothing. Low at p+8: a start.": phase 2 is a confirmed start under way
+case-9 : (fed (lows 8 ++ (Pulse true (at16 eight) ∷ [])) ≡ fed []) × (fed (lows 9) .sampler .phase ≡ 2)
+unfolding after fedOf effectOf enablingOf pulsedOf startedOf arrivedOf sampleOf hunted lowAt lookedAgain pick
+case-9 = (refl, refl)
