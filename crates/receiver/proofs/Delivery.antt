@@ -10,15 +10,17 @@ use lib.ListN.{length, take}
 use borrow.Author.Tests.{le-ltb}
 use Rattle.frame.specs.Pick.{pick}
 use Rattle.frame.proofs.Laws.Pick.{pick-all}
-use Rattle.sampler.specs.declared.character.Character.{Character}
+use Rattle.character.specs.declared.character.Character.{Character}
+use Rattle.character.specs.Character.{noMarks, unmarkedOf}
 use Rattle.sampler.specs.declared.sampler.Came.{Came}
 use Rattle.sampler.specs.declared.sampler.Came.the-variants.{NoCharacter, Arrival}
 use Rattle.sampler.specs.declared.sampler.Sampled.{Sampled}
-use Rattle.sampler.specs.Character.{noMarks, unmarkedOf}
 use Rattle.sampler.specs.Lines.{Line, hears, listOf, arrivals}
 use Rattle.sampler.specs.Sampler.{sampleOf}
 use Rattle.sampler.proofs.Laws.Room.{most-four, grown, Roomy, room-sample}
-use Rattle.receiver.specs.declared.queue.Queue.{Queue}
+use Rattle.queue.specs.declared.queue.Queue.{Queue}
+use Rattle.queue.specs.Queue.{heldOf, replaced, took, isEmptyOf, oldestOf, replacedOf}
+use Rattle.queue.proofs.Laws.Queue.{held-length, held-put, held-without-waiting, waits-held, held-took, held-replaced, held-empty, is-empty-held, oldest-held}
 use Rattle.receiver.specs.declared.receiver.Effect.{Effect}
 use Rattle.receiver.specs.declared.receiver.Effect.the-variants.{NoEffect, Reset, ClearErrors, ClearBreakChange}
 use Rattle.receiver.specs.declared.receiver.Fed.{Fed}
@@ -30,12 +32,10 @@ use Rattle.receiver.specs.declared.receiver.Enabling.the-variants.{Stays
 use Rattle.receiver.specs.Delivery.{Entry, starts, enters, overruns, Ledger, opened, pulseWritten, effectWritten, enablingWritten, written, ledgerFrom, ledger, asArrived, after, given, reads, linesOf, effectLines, enablingLines, linesOver, Delivers}
 use Rattle.receiver.specs.Delivery.Entry.{entry}
 use Rattle.receiver.specs.Delivery.Fate.{Held, WasRead, Overrun}
-use Rattle.receiver.specs.Queue.{heldOf, replaced, took, isEmptyOf, oldestOf, replacedOf}
 use Rattle.receiver.specs.Receiver.{freshReceiver, oldestMarks, heardOf, startedOf, enteredOf, arrivedOf, pulsedOf, effectOf, enablingOf, oldestRead, readOf, fedOf}
 use Rattle.receiver.specs.Status.{shownMarks, statusOf}
 use Rattle.receiver.proofs.Laws.Ledger.{Tells, tells-fates, firstMarks, tells-marks, tells-entered, tells-read, tells-dropped, firstCleared, tells-cleared, tells-overrun, overruns-grow, overruns-entered, arrived-meets, arrived-dropped, arrived-cleared}
 use Rattle.receiver.proofs.Laws.Ledger.Tells.{nothing}
-use Rattle.receiver.proofs.Laws.Queue.{held-length, held-put, held-without-waiting, waits-held, held-took, held-replaced, held-empty, is-empty-held, oldest-held}
 use Rattle.receiver.proofs.Laws.Waiting.{Room, answered, answered-sampler, started-count, fed-room}
 
 -- ---- the oldest ----

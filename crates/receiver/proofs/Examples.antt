@@ -11,19 +11,19 @@ use Rattle.frame.specs.Format.{formatOf}
 use Rattle.frame.specs.Levels.{beforeStop, spread, levels}
 use Rattle.frame.specs.Parity.{parityBits}
 use Rattle.frame.specs.Pick.{pick}
-use Rattle.sampler.specs.declared.character.Character.{Character}
-use Rattle.sampler.specs.Character.{noMarks}
+use Rattle.character.specs.declared.character.Character.{Character}
+use Rattle.character.specs.Character.{noMarks}
 use Rattle.sampler.specs.Assembly.{dataWidthOf, samplesOf, withSample, characterOf, parityWrongOf}
 use Rattle.sampler.specs.Lines.{at16}
 use Rattle.sampler.specs.State.{gapOf, afterStop}
 use Rattle.sampler.specs.Sampler.{lowAt, hunted, lookedAgain, finished, sampled, assembled, sampleOf}
+use Rattle.queue.specs.Queue.{heldOf, waitsOf, putOf, withoutWaitingOf, tookOf}
 use Rattle.receiver.specs.declared.receiver.Effect.the-variants.{NoEffect, Reset}
 use Rattle.receiver.specs.declared.receiver.Feed.{Feed}
 use Rattle.receiver.specs.declared.receiver.Feed.the-variants.{Pulse, Command, Read}
 use Rattle.receiver.specs.declared.receiver.Receiver.{Receiver}
 use Rattle.receiver.specs.declared.receiver.Enabling.the-variants.{Stays, Enables}
 use Rattle.receiver.specs.Delivery.{after, given, reads}
-use Rattle.receiver.specs.Queue.{heldOf, waitsOf, putOf, withoutWaitingOf, tookOf}
 use Rattle.receiver.specs.ReadBack.{pulses, sentAll, Idle}
 use Rattle.receiver.specs.Receiver.{freshReceiver, oldestMarks, startedOf, enteredOf, arrivedOf, pulsedOf, effectOf, enablingOf, oldestRead, readOf, fedOf}
 use Rattle.receiver.specs.Sound.{receiverInRange, waitingSound}

@@ -1,5 +1,4 @@
 -- The laws of one receiver, a file a topic. Assumes nothing.
 pub mod Ledger
-pub mod Queue
 pub mod Ranges
 pub mod Waiting

@@ -14,23 +14,23 @@ use Rattle.frame.specs.Stop.{stopLengthOf}
 use Rattle.frame.specs.Levels.{beforeStop, spread, levels, frame}
 use Rattle.frame.proofs.Laws.Format.{width-most}
 use Rattle.frame.proofs.Laws.Stop.{stop-least}
-use Rattle.sampler.specs.declared.character.Character.{Character}
+use Rattle.character.specs.declared.character.Character.{Character}
+use Rattle.character.specs.Character.{clean}
 use Rattle.sampler.specs.declared.sampler.Came.{Came}
 use Rattle.sampler.specs.declared.sampler.Came.the-variants.{NoCharacter, Arrival}
 use Rattle.sampler.specs.declared.sampler.Sampled.{Sampled}
 use Rattle.sampler.specs.declared.state.Sampler.{Sampler}
 use Rattle.sampler.specs.declared.state.Setting.{Setting}
-use Rattle.sampler.specs.Character.{clean}
 use Rattle.sampler.specs.Lines.{at16, Line, hears, listOf, afterLines, arrivals}
 use Rattle.sampler.specs.State.{hunting}
 use Rattle.sampler.specs.Sampler.{hunted, sampleOf}
 use Rattle.sampler.proofs.Laws.Heard.{Said, changing, begun, coming, heard, reached, Ran, hears-frame}
 use Rattle.sampler.proofs.Laws.Heard.Said.{changes, began, came}
-use Rattle.receiver.specs.declared.queue.Queue.{Queue}
+use Rattle.queue.specs.declared.queue.Queue.{Queue}
+use Rattle.queue.specs.Queue.{heldOf, putOf, withoutWaitingOf}
 use Rattle.receiver.specs.declared.receiver.Feed.{Feed}
 use Rattle.receiver.specs.declared.receiver.Receiver.{Receiver}
 use Rattle.receiver.specs.Delivery.{linesOf, linesOver, after}
-use Rattle.receiver.specs.Queue.{heldOf, putOf, withoutWaitingOf}
 use Rattle.receiver.specs.ReadBack.{pulses, sent, sentAll, Idle, ReadBack, ReadBackAll}
 use Rattle.receiver.specs.Receiver.{withSampler, withChange, heardOf, startedOf, enteredOf, arrivedOf, pulsedOf, fedOf}
 use Rattle.receiver.proofs.Laws.Waiting.{answered-sampler}

@@ -12,13 +12,14 @@ use Rattle.frame.specs.Digits.{bitsOf}
 use Rattle.frame.specs.Levels.{beforeStop, spread, levels}
 use Rattle.frame.specs.Parity.{parityBits}
 use Rattle.frame.specs.Pick.{pick}
-use Rattle.sampler.specs.declared.character.Character.{Character}
+use Rattle.character.specs.declared.character.Character.{Character}
+use Rattle.character.specs.Character.{noCharacter}
 use Rattle.sampler.specs.Assembly.{dataWidthOf, samplesOf, withSample, characterOf}
-use Rattle.sampler.specs.Character.{noCharacter}
 use Rattle.sampler.specs.Lines.{at16, hears}
 use Rattle.sampler.specs.State.{gapOf, afterStop}
 use Rattle.sampler.specs.Sampler.{lowAt, hunted, lookedAgain, finished, sampled, assembled, sampleOf}
-use Rattle.receiver.specs.declared.queue.Queue.{Queue}
+use Rattle.queue.specs.declared.queue.Queue.{Queue}
+use Rattle.queue.specs.Queue.{heldOf, emptyQueue, waitsOf, putOf, withoutWaitingOf, tookOf}
 use Rattle.receiver.specs.declared.receiver.Effect.the-variants.{NoEffect, Reset, ClearErrors, ClearBreakChange}
 use Rattle.receiver.specs.declared.receiver.Fed.{Fed}
 use Rattle.receiver.specs.declared.receiver.Feed.{Feed}
@@ -26,7 +27,6 @@ use Rattle.receiver.specs.declared.receiver.Feed.the-variants.{Nothing, 
 use Rattle.receiver.specs.declared.receiver.Enabling.the-variants.{Stays, Enables, Disables}
 use Rattle.receiver.specs.Delivery.{Fate, written, ledgerFrom, Step, Show, after, given, reads, Delivers}
 use Rattle.receiver.specs.Delivery.Fate.{Held}
-use Rattle.receiver.specs.Queue.{heldOf, emptyQueue, waitsOf, putOf, withoutWaitingOf, tookOf}
 use Rattle.receiver.specs.ReadBack.{sentAll}
 use Rattle.receiver.specs.Status.{statusOf}
 use Rattle.receiver.specs.Receiver.{withQueue, effectOf, enablingOf, freshReceiver, startedOf, enteredOf, arrivedOf, pulsedOf, oldestRead, readOf, fedOf}

@@ -9,16 +9,17 @@ use mathlib.Core.List.{List, [], _∷_, _++_, map}
 use lib.Dec.{ltb}
 use lib.ListN.{take}
 use Rattle.frame.specs.Pick.{pick}
-use Rattle.sampler.specs.declared.character.Character.{Character}
-use Rattle.sampler.specs.declared.character.Marks.{Marks}
+use Rattle.character.specs.declared.character.Character.{Character}
+use Rattle.character.specs.declared.character.Marks.{Marks}
+use Rattle.character.specs.Character.{noMarks, unmarkedOf}
 use Rattle.sampler.specs.declared.sampler.Came.{Came}
 use Rattle.sampler.specs.declared.sampler.Came.the-variants.{NoCharacter, Arrival}
 use Rattle.sampler.specs.declared.sampler.Sampled.{Sampled}
 use Rattle.sampler.specs.declared.state.Sampler.{Sampler}
-use Rattle.sampler.specs.Character.{noMarks, unmarkedOf}
 use Rattle.sampler.specs.Lines.{Line, hears, arrivals}
 use Rattle.sampler.specs.Lines.Line.{pulse, enable, disable}
 use Rattle.sampler.specs.State.{hunting}
+use Rattle.queue.specs.Queue.{heldOf}
 use Rattle.receiver.specs.declared.receiver.Effect.{Effect}
 use Rattle.receiver.specs.declared.receiver.Effect.the-variants.{NoEffect, Reset, ClearErrors, ClearBreakChange}
 use Rattle.receiver.specs.declared.receiver.Fed.{Fed}
@@ -28,7 +29,6 @@ use Rattle.receiver.specs.declared.receiver.Receiver.{Receiver}
 use Rattle.receiver.specs.declared.receiver.Enabling.{Enabling}
 use Rattle.receiver.specs.declared.receiver.Enabling.the-variants.{Stays, Enables, Disables}
 use Rattle.receiver.specs.declared.status.Status.{Status}
-use Rattle.receiver.specs.Queue.{heldOf}
 
 -- ---- what a sampler sees of a feed ----
 

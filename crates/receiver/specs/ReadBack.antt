@@ -7,16 +7,16 @@ use mathlib.Core.List.{List, [], _∷_, _++_}
 use Rattle.frame.specs.declared.format.Format.{Format}
 use Rattle.frame.specs.Digits.{cutOf}
 use Rattle.frame.specs.Levels.{beforeStop, levels}
-use Rattle.sampler.specs.declared.character.Character.{Character}
+use Rattle.character.specs.declared.character.Character.{Character}
+use Rattle.character.specs.Character.{clean}
 use Rattle.sampler.specs.declared.state.Sampler.{Sampler}
 use Rattle.sampler.specs.declared.state.Setting.{Setting}
-use Rattle.sampler.specs.Character.{clean}
 use Rattle.sampler.specs.Lines.{at16, afterLines, arrivals}
+use Rattle.queue.specs.Queue.{heldOf}
 use Rattle.receiver.specs.declared.receiver.Feed.{Feed}
 use Rattle.receiver.specs.declared.receiver.Feed.the-variants.{Pulse, Read}
 use Rattle.receiver.specs.declared.receiver.Receiver.{Receiver}
 use Rattle.receiver.specs.Delivery.{linesOver, after, given}
-use Rattle.receiver.specs.Queue.{heldOf}
 use Rattle.receiver.specs.Receiver.{fedOf}
 use Rattle.receiver.specs.Status.{statusOf}
 

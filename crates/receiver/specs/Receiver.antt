@@ -2,17 +2,18 @@
 use Prim.Native.Nat.{ℕ}
 use mathlib.Core.Bool.{Bool, false, _||_}
 use Rattle.frame.specs.Pick.{pick}
-use Rattle.sampler.specs.declared.character.Character.{Character}
-use Rattle.sampler.specs.declared.character.Marks.{Marks}
+use Rattle.character.specs.declared.character.Character.{Character}
+use Rattle.character.specs.declared.character.Marks.{Marks}
+use Rattle.character.specs.Character.{noMarks, orMarks, unmarkedOf}
 use Rattle.sampler.specs.declared.sampler.Came.{Came}
 use Rattle.sampler.specs.declared.sampler.Came.the-variants.{NoCharacter, Arrival}
 use Rattle.sampler.specs.declared.sampler.Sampled.{Sampled}
 use Rattle.sampler.specs.declared.state.Sampler.{Sampler}
 use Rattle.sampler.specs.declared.state.Setting.{Setting}
-use Rattle.sampler.specs.Character.{noMarks, orMarks, unmarkedOf}
 use Rattle.sampler.specs.State.{hunting}
 use Rattle.sampler.specs.Sampler.{sampleOf}
-use Rattle.receiver.specs.declared.queue.Queue.{Queue}
+use Rattle.queue.specs.declared.queue.Queue.{Queue}
+use Rattle.queue.specs.Queue.{emptyQueue, isEmptyOf, oldestOf, waitsOf, putOf, withoutWaitingOf, tookOf, replacedOf}
 use Rattle.receiver.specs.declared.receiver.Effect.{Effect}
 use Rattle.receiver.specs.declared.receiver.Effect.the-variants.{NoEffect, Reset, ClearErrors, ClearBreakChange}
 use Rattle.receiver.specs.declared.receiver.Fed.{Fed}
@@ -21,7 +22,6 @@ use Rattle.receiver.specs.declared.receiver.Feed.the-variants.{Nothing, 
 use Rattle.receiver.specs.declared.receiver.Receiver.{Receiver}
 use Rattle.receiver.specs.declared.receiver.Enabling.{Enabling}
 use Rattle.receiver.specs.declared.receiver.Enabling.the-variants.{Stays, Enables, Disables}
-use Rattle.receiver.specs.Queue.{emptyQueue, isEmptyOf, oldestOf, waitsOf, putOf, withoutWaitingOf, tookOf, replacedOf}
 
 -- "Chip reset: .. every .. flag, mark, last byte read .. 0, .. queues, waiting .. places, .. assembly empty"
 abbrev pub freshReceiver : Receiver

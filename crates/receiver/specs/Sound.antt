@@ -2,17 +2,13 @@
 -- waiting place used only with three characters held and no confirmed start under way." docs/SOUND.md lists the same ranges. A
 -- byte, a mark and a flag may be any of their type. Assumes nothing.
 use mathlib.Core.Bool.{Bool, true, not, _&&_, _||_}
-use lib.Dec.{eqb, leb}
+use lib.Dec.{eqb}
 use Rattle.sampler.specs.Sound.{settingInRange, samplerInRange}
-use Rattle.receiver.specs.declared.queue.Queue.{Queue}
+use Rattle.queue.specs.Queue.{waitsOf}
+use Rattle.queue.specs.Sound.{queueInRange}
 use Rattle.receiver.specs.declared.receiver.Feed.{Feed}
 use Rattle.receiver.specs.declared.receiver.Feed.the-variants.{Nothing, Pulse, Command, Read, ChipReset}
 use Rattle.receiver.specs.declared.receiver.Receiver.{Receiver}
-use Rattle.receiver.specs.Queue.{waitsOf}
-
--- demand 3: "At most four are ever held."
-abbrev pub queueInRange : Queue → Bool
-queueInRange q = leb (q .count) 4
 
 abbrev pub receiverInRange : Receiver → Bool
 receiverInRange r = samplerInRange (r .sampler) && queueInRange (r .queue)

@@ -1,10 +1,10 @@
 -- What a receiver shows of itself in the status register. Assumes nothing.
 use mathlib.Core.Bool.{Bool, not}
 use Rattle.frame.specs.Pick.{pick}
-use Rattle.sampler.specs.declared.character.Marks.{Marks}
+use Rattle.character.specs.declared.character.Marks.{Marks}
+use Rattle.queue.specs.Queue.{isEmptyOf, isFullOf}
 use Rattle.receiver.specs.declared.receiver.Receiver.{Receiver}
 use Rattle.receiver.specs.declared.status.Status.{Status}
-use Rattle.receiver.specs.Queue.{isEmptyOf, isFullOf}
 use Rattle.receiver.specs.Receiver.{oldestMarks}
 
 -- "Character errors: SR 7-5 show the oldest's marks, 0 if none. Block: the marks, each bit ORed, of all that became oldest since

@@ -1,12 +1,9 @@
-// One receiver of the MC68681: what it holds of what its sampler puts together, and what it shows.
-//
-// The queue moves characters whole: it never looks into one, and never at the sampler. A receiver is
-// the two side by side. One file a topic; specs/ has the definitions of each under the same name.
-mod queue;
+// One receiver of the MC68681: a sampler and a queue side by side, with what neither of them keeps, the
+// overrun mark, the block sums, break change and the last byte read; and what it shows. One file a
+// topic; specs/ has the definitions of each under the same name, and what is owed of a receiver.
 mod receiver;
 mod status;
 
-pub use queue::Queue;
 pub use receiver::Effect;
 pub use receiver::Enabling;
 pub use receiver::Fed;

@@ -1,9 +1,9 @@
 // What a receiver shows of itself in the status register.
-use crate::queue::is_empty;
-use crate::queue::is_full;
 use crate::receiver::Receiver;
 use crate::receiver::oldest_marks;
-use sampler::Marks;
+use character::Marks;
+use queue::is_empty;
+use queue::is_full;
 ghost use mathlib.Core.Path.{_≡_};
 ghost use Rattle.receiver.specs.Status.{shownMarks, statusOf};
 

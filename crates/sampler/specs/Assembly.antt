@@ -6,7 +6,7 @@ use Rattle.frame.specs.declared.counts.Bits.{Bits}
 use Rattle.frame.specs.declared.format.Format.{Format}
 use Rattle.frame.specs.Pick.{pick}
 use Rattle.frame.specs.Parity.{hasParityOf, parityBitOf}
-use Rattle.sampler.specs.declared.character.Character.{Character}
+use Rattle.character.specs.declared.character.Character.{Character}
 
 -- the data bits that are sampled: a width that MR1 cannot choose, above 8, goes with 8
 unfoldable pub dataWidthOf : Format → Bits

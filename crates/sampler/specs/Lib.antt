@@ -1,5 +1,4 @@
 -- What a reader must believe of the sampler: a file a topic, under the names of src/, and what it sees and says, run alone.
-pub mod Character
 pub mod Assembly
 pub mod State
 pub mod Sampler

@@ -4,11 +4,11 @@ use Prim.Native.Nat.{ℕ, _+_, _-_}
 use mathlib.Core.Bool.{Bool, true, false}
 use lib.Dec.{eqb, ltb}
 use Rattle.frame.specs.Pick.{pick}
+use Rattle.character.specs.Character.{breakCharacter}
 use Rattle.sampler.specs.declared.sampler.Came.the-variants.{NoCharacter, Arrival}
 use Rattle.sampler.specs.declared.sampler.Sampled.{Sampled}
 use Rattle.sampler.specs.declared.state.Sampler.{Sampler}
 use Rattle.sampler.specs.declared.state.Setting.{Setting}
-use Rattle.sampler.specs.Character.{breakCharacter}
 use Rattle.sampler.specs.State.{hunting, starting, assembling, afterLowStop, inBreak, gapOf, afterStop}
 use Rattle.sampler.specs.Assembly.{samplesOf, withSample, characterOf}
 

@@ -1,6 +1,6 @@
 // A character put together from samples: how many there are before the stop's, and what they say.
-use crate::character::Character;
-use crate::character::Marks;
+use character::Character;
+use character::Marks;
 use frame::Bits;
 use frame::Format;
 ghost use mathlib.Core.Path.{_≡_};

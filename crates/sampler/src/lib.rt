@@ -4,15 +4,9 @@
 // It stands in a crate of its own because it never looks at the queue: here there is none. One file a
 // topic; specs/ has the definitions of each under the same name.
 mod assembly;
-mod character;
 mod sampler;
 mod state;
 
-pub use character::Character;
-pub use character::Marks;
-pub use character::no_marks;
-pub use character::or_marks;
-pub use character::unmarked;
 pub use sampler::Came;
 pub use sampler::Sampled;
 pub use sampler::sample;

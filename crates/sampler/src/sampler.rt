@@ -2,8 +2,6 @@
 // the queue. A disabled receiver is given no pulses, so there is no state for it here.
 use crate::assembly::character_of;
 use crate::assembly::samples_before_stop;
-use crate::character::Character;
-use crate::character::break_character;
 use crate::state::AFTER_LOW_STOP;
 use crate::state::ASSEMBLING;
 use crate::state::IN_BREAK;
@@ -16,6 +14,8 @@ use crate::state::empty_at;
 use crate::state::gap;
 use crate::state::hunting_after;
 use crate::state::starting_at;
+use character::Character;
+use character::break_character;
 use frame::Bits;
 use frame::Pulses;
 ghost use mathlib.Core.Path.{_≡_};

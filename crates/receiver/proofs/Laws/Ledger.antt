@@ -8,10 +8,10 @@ use native.Mathlib.Omega.{arith}
 use lib.Dec.{leb, ltb}
 use lib.ListN.{length, take}
 use borrow.Author.Tests.{lt-ltb, le-ltb, leb-true, leb-false}
-use Rattle.sampler.specs.declared.character.Character.{Character}
-use Rattle.sampler.specs.declared.character.Marks.{Marks}
-use Rattle.sampler.specs.Character.{noMarks, unmarkedOf}
-use Rattle.receiver.specs.Queue.{put, waits, took}
+use Rattle.character.specs.declared.character.Character.{Character}
+use Rattle.character.specs.declared.character.Marks.{Marks}
+use Rattle.character.specs.Character.{noMarks, unmarkedOf}
+use Rattle.queue.specs.Queue.{put, waits, took}
 use Rattle.receiver.specs.Delivery.{Fate, Entry, meets, dropAll, clears, overruns, live, asArrived, lessCleared, known, oldestKnown, fatedBy}
 use Rattle.receiver.specs.Delivery.Entry.{entry}
 use Rattle.receiver.specs.Delivery.Fate.{Held, WasRead, Overrun, Dropped}

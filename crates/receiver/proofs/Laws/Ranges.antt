@@ -4,10 +4,8 @@ use Prim.Native.Nat.{_≤_}
 use mathlib.Core.Path.{_≡_}
 use mathlib.Core.Bool.{Bool, true, false, and-eq-true-iff}
 use native.Mathlib.Omega.{arith}
-use lib.Dec.{eqb}
 use borrow.Author.Tests.{leb-true, le-leb}
 use Rattle.frame.proofs.Laws.Pick.{pick-all}
-use Rattle.sampler.specs.declared.character.Character.{Character}
 use Rattle.sampler.specs.declared.sampler.Came.{Came}
 use Rattle.sampler.specs.declared.sampler.Came.the-variants.{NoCharacter, Arrival}
 use Rattle.sampler.specs.declared.sampler.Sampled.{Sampled}
@@ -15,7 +13,8 @@ use Rattle.sampler.specs.declared.state.Setting.{Setting}
 use Rattle.sampler.specs.Sampler.{sampleOf}
 use Rattle.sampler.specs.Sound.{settingInRange, samplerInRange}
 use Rattle.sampler.proofs.Laws.Ranges.{sample-keeps, hunting-keeps}
-use Rattle.receiver.specs.declared.queue.Queue.{Queue}
+use Rattle.queue.specs.Queue.{isEmptyOf}
+use Rattle.queue.proofs.Laws.Queue.{put-four, without-waiting-count, took-count}
 use Rattle.receiver.specs.declared.receiver.Effect.{Effect}
 use Rattle.receiver.specs.declared.receiver.Effect.the-variants.{NoEffect, Reset, ClearErrors, ClearBreakChange}
 use Rattle.receiver.specs.declared.receiver.Fed.{Fed}
@@ -24,22 +23,12 @@ use Rattle.receiver.specs.declared.receiver.Feed.the-variants.{Nothing, 
 use Rattle.receiver.specs.declared.receiver.Receiver.{Receiver}
 use Rattle.receiver.specs.declared.receiver.Enabling.{Enabling}
 use Rattle.receiver.specs.declared.receiver.Enabling.the-variants.{Stays, Enables, Disables}
-use Rattle.receiver.specs.Queue.{isEmptyOf, putOf}
 use Rattle.receiver.specs.Receiver.{heardOf, startedOf, enteredOf, arrivedOf, pulsedOf, effectOf, enablingOf, oldestRead, readOf, fedOf}
 use Rattle.receiver.specs.Sound.{receiverInRange, feedInRange}
-use Rattle.receiver.proofs.Laws.Queue.{without-waiting-count, took-count}
 
 record Inside (r : Receiver) : Type 0 where
   sampler : samplerInRange (r .sampler) ≡ true
   queue : r .queue .count ≤ 4
-
--- a put never counts past four, whatever it finds
-put-four : (q : Queue) (c : Character) → putOf q c .count ≤ 4
-unfolding putOf
-put-four q c =
-    pick-all (λ (k : Queue). k .count ≤ 4) (eqb (q .count) 0) _ _ (omega arith)
-    (pick-all (λ (k : Queue). k .count ≤ 4) (eqb (q .count) 1) _ _ (omega arith)
-    (pick-all (λ (k : Queue). k .count ≤ 4) (eqb (q .count) 2) _ _ (omega arith) (omega arith)))
 
 started-inside : (r : Receiver) (t : Bool) → Inside r → Inside (startedOf r t)
 unfolding startedOf

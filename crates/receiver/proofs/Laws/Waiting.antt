@@ -13,6 +13,9 @@ use Rattle.sampler.specs.declared.sampler.Came.the-variants.{NoCharacter, Arriv
 use Rattle.sampler.specs.declared.sampler.Sampled.{Sampled}
 use Rattle.sampler.specs.Sampler.{sampleOf}
 use Rattle.sampler.proofs.Laws.Room.{most, most-four, cut, grown, Roomy, room-sample}
+use Rattle.queue.specs.Queue.{isEmptyOf}
+use Rattle.queue.specs.Sound.{queueInRange}
+use Rattle.queue.proofs.Laws.Queue.{put-count, without-waiting-count, took-count}
 use Rattle.receiver.specs.declared.receiver.Effect.{Effect}
 use Rattle.receiver.specs.declared.receiver.Effect.the-variants.{NoEffect, Reset, ClearErrors, ClearBreakChange}
 use Rattle.receiver.specs.declared.receiver.Fed.{Fed}
@@ -21,10 +24,8 @@ use Rattle.receiver.specs.declared.receiver.Feed.the-variants.{Nothing, 
 use Rattle.receiver.specs.declared.receiver.Receiver.{Receiver}
 use Rattle.receiver.specs.declared.receiver.Enabling.{Enabling}
 use Rattle.receiver.specs.declared.receiver.Enabling.the-variants.{Stays, Enables, Disables}
-use Rattle.receiver.specs.Queue.{isEmptyOf}
 use Rattle.receiver.specs.Receiver.{heardOf, startedOf, enteredOf, arrivedOf, pulsedOf, effectOf, enablingOf, oldestRead, readOf, fedOf}
-use Rattle.receiver.specs.Sound.{queueInRange, waitingSound}
-use Rattle.receiver.proofs.Laws.Queue.{put-count, without-waiting-count, took-count}
+use Rattle.receiver.specs.Sound.{waitingSound}
 
 -- ---- the receiver ----
 

@@ -18,7 +18,7 @@ use Rattle.frame.specs.Digits.{bit, valueOf, cutOf}
 use Rattle.frame.specs.Parity.{dataBits, hasParityOf, parityBitOf, parityBits}
 use Rattle.frame.proofs.Laws.Pick.{pick-all}
 use Rattle.frame.proofs.Laws.Digits.{length-bits, value-bits, bits-cut, value-append}
-use Rattle.sampler.specs.Character.{clean}
+use Rattle.character.specs.Character.{clean}
 use Rattle.sampler.specs.Assembly.{dataWidthOf, samplesOf, withSample, dataOf, parityWrongOf, characterOf}
 
 least : (w : Bits) (t : Bool) → ltb (w .0) 8 ≡ t → pick t w (record { 0 = 8 }) .0 ≤ 8

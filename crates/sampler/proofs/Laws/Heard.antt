@@ -15,12 +15,12 @@ use Rattle.frame.specs.Pick.{pick}
 use Rattle.frame.specs.Digits.{bit, valueOf, cutOf}
 use Rattle.frame.specs.Parity.{dataBits, parityBits}
 use Rattle.frame.specs.Levels.{beforeStop, spread, levels}
-use Rattle.sampler.specs.declared.character.Character.{Character}
+use Rattle.character.specs.declared.character.Character.{Character}
+use Rattle.character.specs.Character.{clean}
 use Rattle.sampler.specs.declared.sampler.Came.{Came}
 use Rattle.sampler.specs.declared.sampler.Came.the-variants.{NoCharacter, Arrival}
 use Rattle.sampler.specs.declared.state.Sampler.{Sampler}
 use Rattle.sampler.specs.declared.state.Setting.{Setting}
-use Rattle.sampler.specs.Character.{clean}
 use Rattle.sampler.specs.Assembly.{samplesOf, withSample, characterOf}
 use Rattle.sampler.specs.State.{hunting, assembling, gapOf, afterStop}
 use Rattle.sampler.specs.Sampler.{lowAt, hunted, lookedAgain, finished, sampled, assembled, sampleOf}

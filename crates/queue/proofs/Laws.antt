@@ -1,0 +1,2 @@
+-- The laws of the queue. Assumes nothing.
+pub mod Queue
