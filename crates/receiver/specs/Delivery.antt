@@ -213,9 +213,10 @@ abbrev pub fatedBy : Fate → List Character → List (Character × Fate)
 fatedBy f [] = []
 fatedBy f (c ∷ cs) = (c, f) ∷ fatedBy f cs
 
--- What is owed of a list of feeds, from any receiver after a chip reset. The first field is the ledger's own: no receiver is in it.
+-- What is owed of a list of feeds, from any receiver after a chip reset; the quotes of the first three fields are demand 3's. The first
+-- field is the ledger's own: no receiver is in it.
 pub record Delivery (step : Step) (show : Show) (r : Receiver) (es : List Feed) : Type 0 where
-  -- demand 3: the ledger has "exactly these characters in order, each once", whole as they arrived
+  -- the ledger has "exactly these characters in order, each once", whole as they arrived
   pub all : map asArrived (ledger es .entries) ≡ arrivals (hunting false) (linesOver es)
   -- less those removed and dropped, they are "Those the program read while the ready bit was set, then those still held"
   pub fates : map known (live (ledger es .entries))
