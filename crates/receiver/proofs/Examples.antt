@@ -26,7 +26,7 @@ use Rattle.receiver.specs.declared.receiver.Enabling.the-variants.{Stays
 use Rattle.receiver.specs.Delivery.{after, given, reads}
 use Rattle.receiver.specs.ReadBack.{pulses, sentAll, Idle}
 use Rattle.receiver.specs.Receiver.{freshReceiver, oldestMarks, startedOf, enteredOf, arrivedOf, pulsedOf, effectOf, enablingOf, oldestRead, readOf, fedOf}
-use Rattle.receiver.specs.Sound.{receiverInRange, waitingSound}
+use Rattle.receiver.specs.Sound.{waitingSound}
 use Rattle.receiver.specs.Status.{shownMarks, statusOf}
 
 -- MR1 19: 8 data bits, no parity
@@ -41,11 +41,6 @@ abbrev byteOf : Character → ℕ
 byteOf c = c .byte
 
 -- ---- what is assumed is met ----
-
--- a chip reset leaves a receiver in range, with the rule on the waiting place
-fresh-met : (receiverInRange freshReceiver ≡ true) × (waitingSound freshReceiver ≡ true)
-unfolding formatOf
-fresh-met = (refl, refl)
 
 -- the read-back's receiver: idle, and empty
 idle-met : Idle (fed [] .sampler) × (heldOf (fed [] .queue) ≡ [])

@@ -1,6 +1,8 @@
 -- "Sound means no more than this: fields in ranges listed in docs/ that hold every value a rule here can put there, .. and the
 -- waiting place used only with three characters held and no confirmed start under way." docs/SOUND.md lists the same ranges. A
 -- byte, a mark and a flag may be any of their type. Assumes nothing.
+use mathlib.Core.Path.{_≡_}
+use mathlib.Core.List.{List, [], _∷_}
 use mathlib.Core.Bool.{Bool, true, not, _&&_, _||_}
 use lib.Dec.{eqb}
 use Rattle.sampler.specs.Sound.{settingInRange, samplerInRange}
@@ -25,3 +27,12 @@ feedInRange ChipReset = true
 -- as the fourth, so that three are held with it; phase 2 is a confirmed start under way
 abbrev pub waitingSound : Receiver → Bool
 waitingSound r = not (waitsOf (r .queue)) || not (eqb (r .sampler .phase) 2)
+
+-- "Every state reached from a chip reset is sound.", said of one receiver: after any feeds that are in range
+abbrev pub feedsInRange : List Feed → Bool
+feedsInRange [] = true
+feedsInRange (e ∷ es) = feedInRange e && feedsInRange es
+
+pub record Sound (r : Receiver) : Type 0 where
+  pub ranges : receiverInRange r ≡ true
+  pub waiting : waitingSound r ≡ true
