@@ -1,6 +1,6 @@
 // A received character and its error marks.
 ghost use mathlib.Core.Path.{_≡_};
-ghost use Rattle.character.specs.Character.{noMarks, orMarks, unmarkedOf, breakCharacter};
+ghost use Rattle.character.specs.Character.{noMarks, orMarks, unmarkedOf, noCharacter, breakCharacter};
 
 // "break, framing, parity": the marks that SR bits 7 to 5 show.
 #[repr(C)]
@@ -49,14 +49,22 @@ pub fn unmarked(character: Character) -> Character
     }
 }
 
-// "a zero with the break mark alone"
-pub fn break_character() -> Character
-    ensures { λ r. ⌜ r ≡ breakCharacter ⌝ }
+// What an unused place of a queue holds after a chip reset.
+pub fn no_character() -> Character
+    ensures { λ r. ⌜ r ≡ noCharacter ⌝ }
 {
-    let mut marks = no_marks();
-    marks.broken = true;
+    let marks = no_marks();
     Character {
         byte: 0,
         marks: marks,
     }
+}
+
+// "a zero with the break mark alone"
+pub fn break_character() -> Character
+    ensures { λ r. ⌜ r ≡ breakCharacter ⌝ }
+{
+    let mut zero = no_character();
+    zero.marks.broken = true;
+    zero
 }

@@ -7,6 +7,7 @@ mod character;
 pub use character::Character;
 pub use character::Marks;
 pub use character::break_character;
+pub use character::no_character;
 pub use character::no_marks;
 pub use character::or_marks;
 pub use character::unmarked;

@@ -1,9 +1,8 @@
 // The queue of three and the waiting place. It moves characters whole: it never looks into one, and
 // never at the sampler.
 use character::Character;
-use character::no_marks;
+use character::no_character;
 ghost use mathlib.Core.Path.{_≡_};
-ghost use Rattle.character.specs.Character.{noCharacter};
 ghost use Rattle.queue.specs.Queue.{emptyQueue, isEmptyOf, isFullOf, oldestOf, waitsOf, putOf, withoutWaitingOf, tookOf, replacedOf};
 
 // Those held, the oldest first: `count` of them, from 0 to 4. The fourth is the one that waits.
@@ -14,16 +13,6 @@ pub struct Queue {
     pub second: Character,
     pub third: Character,
     pub waiting: Character,
-}
-
-// What an unused place holds after a chip reset.
-fn no_character() -> Character
-    ensures { λ r. ⌜ r ≡ noCharacter ⌝ }
-{
-    Character {
-        byte: 0,
-        marks: no_marks(),
-    }
 }
 
 pub fn empty_queue() -> Queue

@@ -1,7 +1,7 @@
 -- `no_character` meets its contract: a zero with the callee's marks. Assumes nothing.
 use borrow.Author.Needs.{needs}
-use Rattle.queue.proofs.queue.no_character.Statement.{statement}
-use Rattle.queue.proofs.queue.no_character.Tie as tie
+use Rattle.character.proofs.character.no_character.Statement.{statement}
+use Rattle.character.proofs.character.no_character.Tie as tie
 
 no-marks-requires : tie.Need-no-marks-requires
 no-marks-requires c κs = search needs
