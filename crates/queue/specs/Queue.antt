@@ -67,7 +67,7 @@ putOf q c =
 
 unfoldable pub withoutWaitingOf : Queue → Queue
 withoutWaitingOf q =
-    pick (leb 4 (q .count)) (record { count = 3; first = q .first; second = q .second; third = q .third; waiting = q .waiting }) q
+    pick (waitsOf q) (record { count = 3; first = q .first; second = q .second; third = q .third; waiting = q .waiting }) q
 
 unfoldable pub tookOf : Queue → Queue
 tookOf q =

@@ -85,7 +85,7 @@ pub fn remove_waiting(queue: Queue) -> Queue
     ensures { λ r. ⌜ r ≡ withoutWaitingOf queue ⌝ }
 {
     let mut rest = queue;
-    if queue.count >= 4 {
+    if one_waits(queue) {
         rest.count = 3;
     }
     rest

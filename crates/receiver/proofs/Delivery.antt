@@ -20,7 +20,7 @@ use Rattle.sampler.specs.Sampler.{sampleOf}
 use Rattle.sampler.proofs.Laws.Room.{most-four, grown, Roomy, room-sample}
 use Rattle.queue.specs.declared.queue.Queue.{Queue}
 use Rattle.queue.specs.Queue.{heldOf, replaced, took, isEmptyOf, oldestOf, replacedOf}
-use Rattle.queue.proofs.Laws.Queue.{held-length, held-put, held-without-waiting, waits-held, held-took, held-replaced, held-empty, is-empty-held, oldest-held}
+use Rattle.queue.proofs.Laws.Queue.{held-length, held-put, held-without-waiting, at-least-held, held-took, held-replaced, held-empty, is-empty-held, oldest-held}
 use Rattle.receiver.specs.declared.receiver.Effect.{Effect}
 use Rattle.receiver.specs.declared.receiver.Effect.the-variants.{NoEffect, Reset, ClearErrors, ClearBreakChange}
 use Rattle.receiver.specs.declared.receiver.Fed.{Fed}
@@ -32,11 +32,11 @@ use Rattle.receiver.specs.declared.receiver.Enabling.the-variants.{Stays
 use Rattle.receiver.specs.Delivery.{Entry, starts, enters, overruns, Ledger, opened, pulseWritten, effectWritten, enablingWritten, written, ledgerFrom, ledger, asArrived, after, given, reads, linesOf, effectLines, enablingLines, linesOver, Delivers}
 use Rattle.receiver.specs.Delivery.Entry.{entry}
 use Rattle.receiver.specs.Delivery.Fate.{Held, WasRead, Overrun}
-use Rattle.receiver.specs.Receiver.{freshReceiver, oldestMarks, heardOf, startedOf, enteredOf, arrivedOf, pulsedOf, effectOf, enablingOf, oldestRead, readOf, fedOf}
+use Rattle.receiver.specs.Receiver.{answeredOf, freshReceiver, oldestMarks, heardOf, startedOf, enteredOf, arrivedOf, pulsedOf, effectOf, enablingOf, oldestRead, readOf, fedOf}
 use Rattle.receiver.specs.Status.{shownMarks, statusOf}
 use Rattle.receiver.proofs.Laws.Ledger.{Tells, tells-fates, firstMarks, tells-marks, tells-entered, tells-read, tells-dropped, firstCleared, tells-cleared, tells-overrun, overruns-grow, overruns-entered, arrived-meets, arrived-dropped, arrived-cleared}
 use Rattle.receiver.proofs.Laws.Ledger.Tells.{nothing}
-use Rattle.receiver.proofs.Laws.Waiting.{Room, answered, answered-sampler, started-count, fed-room}
+use Rattle.receiver.proofs.Laws.Waiting.{Room, answered-sampler, started-count, fed-room}
 
 -- ---- the oldest ----
 
@@ -101,7 +101,7 @@ tells-came l r rs (Arrival c) h p = rw (held-put (r .queue) c (omega arith)) (te
 overran-started : (l : List Entry) (r : Receiver) (rs : List Character) (t : Bool) → r .queue .count ≤ 4 → Tells l rs (heldOf (r .queue))
     → (r .overrun || ltb (overruns l) (overruns (starts t l))) ≡ startedOf r t .overrun
 unfolding startedOf pick
-overran-started l r rs true h p = rw (overruns-grow (four-held (r .queue) h) p, ← waits-held (r .queue) h)
+overran-started l r rs true h p = rw (overruns-grow (four-held (r .queue) h) p, ← at-least-held (r .queue) 4 h)
 overran-started l r rs false h p = rw (le-ltb (overruns l) (overruns l) (omega arith), or-false)
 
 overruns-came : (o : Came) (l : List Entry) → overruns (enters o l) ≡ overruns l
@@ -114,7 +114,7 @@ overran-came r NoCharacter = refl
 overran-came r (Arrival c) = refl
 
 in-step-answered : (l : Ledger) (r : Receiver) (rs : List Character) (m : Sampled) → r .queue .count ≤ 4 → Roomy (r .queue .count) m
-    → InStep l r rs → InStep (pulseWritten l m) (answered r m) rs
+    → InStep l r rs → InStep (pulseWritten l m) (answeredOf r m) rs
 in-step-answered l r rs m four p h =
     let n : Receiver = heardOf r (m .next) (m .change) in
     let room : grown (m .came) (startedOf n (m .started) .queue .count) ≤ 4 = rw started-count (omega (arith, most-four (m .next))) in

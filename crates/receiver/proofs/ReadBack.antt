@@ -1,11 +1,11 @@
 -- The read-back of demand 2. What an idle sampler hears of a frame is one confirmed start and one clean arrival (Laws/Heard); what
 -- arrives, and what the queue comes to hold, follow from what is heard. Assumes nothing.
-use Prim.Native.Nat.{ℕ, zero, suc, _≤_}
+use Prim.Native.Nat.{ℕ, _≤_}
 use mathlib.Core.Path.{_≡_, refl, sym, ap, _∙_}
 use mathlib.Core.Bool.{Bool, true, false, or-true, or-false}
 use mathlib.Core.List.{List, [], _∷_, _++_, append-assoc}
 use native.Mathlib.Omega.{arith}
-use lib.ListN.{length, take}
+use borrow.Author.Tests.{eqb-true}
 use Rattle.frame.specs.declared.format.Format.{Format}
 use Rattle.frame.specs.Pick.{pick}
 use Rattle.frame.specs.Digits.{cutOf}
@@ -27,11 +27,13 @@ use Rattle.sampler.specs.Sampler.{hunted, sampleOf}
 use Rattle.sampler.proofs.Laws.Heard.{Said, changing, begun, coming, heard, reached, Ran, hears-frame}
 use Rattle.sampler.proofs.Laws.Heard.Said.{changes, began, came}
 use Rattle.queue.specs.declared.queue.Queue.{Queue}
-use Rattle.queue.specs.Queue.{heldOf, putOf, withoutWaitingOf}
+use Rattle.queue.specs.Queue.{heldOf, withoutWaitingOf}
+use Rattle.queue.proofs.Laws.Queue.{held-put, held-without-waiting, is-empty-held, without-waiting-count}
 use Rattle.receiver.specs.declared.receiver.Feed.{Feed}
 use Rattle.receiver.specs.declared.receiver.Receiver.{Receiver}
+use Rattle.receiver.specs.Status.{statusOf}
 use Rattle.receiver.specs.Delivery.{linesOf, linesOver, after}
-use Rattle.receiver.specs.ReadBack.{pulses, sent, sentAll, Idle, ReadBack, ReadBackAll}
+use Rattle.receiver.specs.ReadBack.{pulses, sent, sentAll, Idle, ReadBack, ReadBackAll, ReadsBack}
 use Rattle.receiver.specs.Receiver.{withSampler, withChange, heardOf, startedOf, enteredOf, arrivedOf, pulsedOf, fedOf}
 use Rattle.receiver.proofs.Laws.Waiting.{answered-sampler}
 use Rattle.receiver.proofs.Delivery.{given-held}
@@ -124,18 +126,16 @@ after-plays f r (b ∷ ls) =
 
 -- ---- into an empty queue ----
 
-none-held : (n : ℕ) (c : Character) (l : List Character) → take n (c ∷ l) ≡ [] → n ≡ 0
-none-held zero c l e = refl
-none-held (suc n) c l e = absurd (let k = ap length e in omega arith)
-
 empty-count : (q : Queue) → heldOf q ≡ [] → q .count ≡ 0
-unfolding heldOf
-empty-count q e = none-held (q .count) (q .first) _ e
+empty-count q e = eqb-true (q .count) 0 (is-empty-held q .1 e)
 
 -- a confirmed start removes nothing, and what then arrives is the one held
 one-held : (r : Receiver) (c : Character) → heldOf (r .queue) ≡ [] → heldOf (enteredOf (startedOf r true) c .queue) ≡ c ∷ []
-unfolding heldOf putOf withoutWaitingOf startedOf enteredOf pick
-one-held r c e = rw (empty-count (r .queue) e)
+unfolding startedOf enteredOf pick
+one-held r c e =
+    let none = empty-count (r .queue) e in
+    let room : withoutWaitingOf (r .queue) .count ≤ 3 = rw (without-waiting-count (r .queue)) (omega arith) in
+    rw (held-put (withoutWaitingOf (r .queue)) c room, held-without-waiting (r .queue) (omega arith), e)
 
 none-overrun : (r : Receiver) (c : Character) → heldOf (r .queue) ≡ [] → enteredOf (startedOf r true) c .overrun ≡ r .overrun
 unfolding startedOf enteredOf pick
@@ -148,8 +148,7 @@ none-changed r c = refl
 idle-again : {s : Sampler} → s ≡ hunting true → Idle s
 idle-again e = record { hunts = rw e; high = rw e }
 
--- Any width that MR1 can choose, every parity number, every stop of nine sixteenths or more, every byte.
-pub read-back : (f : Format) (n x : ℕ) (r : Receiver) → f .width .0 ≤ 8 → 9 ≤ n → Idle (r .sampler) → heldOf (r .queue) ≡ [] → ReadBack f n x r
+pub read-back : ReadsBack fedOf statusOf
 read-back f n x r w h i e =
     let ls : List Bool = levels 16 n (beforeStop f x) in
     let c : Character = clean (cutOf (f .width .0) x) in
@@ -207,5 +206,5 @@ sent-frame f c x = refl
 
 -- So it is read back, for any byte in MR1 and any stop code of MR2.
 pub read-back-frame : (mr1 c x : ℕ) (r : Receiver) → Idle (r .sampler) → heldOf (r .queue) ≡ []
-    → ReadBack (formatOf mr1) (stopLengthOf (formatOf mr1 .width) c .0) x r
+    → ReadBack fedOf statusOf (formatOf mr1) (stopLengthOf (formatOf mr1 .width) c .0) x r
 read-back-frame mr1 c x r i e = read-back (formatOf mr1) _ x r (width-most mr1) (stop-least (formatOf mr1 .width) c) i e

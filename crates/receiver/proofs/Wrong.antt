@@ -1,23 +1,24 @@
--- `Delivers` shuts wrong receivers out. Six take feeds as `fedOf` does but for the queue after one kind of feed, one shows a status as
--- `statusOf` does but for the ready bit. Each is refuted by computing what becomes of a few frames: the ledger then has another character,
--- or more, or fewer. Assumes nothing.
-use Prim.Native.Nat.{ℕ}
-use mathlib.Core.Path.{_≡_, ap}
-use mathlib.Core.Bool.{true, false}
+-- The statements shut wrong receivers out. Each takes feeds as `fedOf` does, or shows a status as `statusOf` does, but for one fault, and
+-- each is refuted by computing what becomes of a few frames: `Delivers` is false of eleven, `ReadsBack` of two, `KeepsSound` of two.
+-- Assumes nothing.
+use Prim.Native.Nat.{ℕ, _≤_}
+use mathlib.Core.Path.{_≡_, refl, sym, ap}
+use mathlib.Core.Bool.{true, false, true≢false}
 use mathlib.Core.List.{List, [], _∷_, _++_}
 use native.Mathlib.Omega.{arith}
-use lib.ListN.{length, getD}
+use lib.ListN.{length, getD, replicate}
 use Rattle.frame.specs.declared.format.Format.{Format}
 use Rattle.frame.specs.Digits.{bitsOf}
 use Rattle.frame.specs.Levels.{beforeStop, spread, levels}
 use Rattle.frame.specs.Parity.{parityBits}
 use Rattle.frame.specs.Pick.{pick}
 use Rattle.character.specs.declared.character.Character.{Character}
-use Rattle.character.specs.Character.{noCharacter}
+use Rattle.character.specs.declared.character.Marks.{Marks}
+use Rattle.character.specs.Character.{noCharacter, noMarks}
 use Rattle.sampler.specs.Assembly.{dataWidthOf, samplesOf, withSample, characterOf}
 use Rattle.sampler.specs.Lines.{at16, hears}
-use Rattle.sampler.specs.State.{gapOf, afterStop}
-use Rattle.sampler.specs.Sampler.{lowAt, hunted, lookedAgain, finished, sampled, assembled, sampleOf}
+use Rattle.sampler.specs.State.{gapOf, afterStop, hunting, starting}
+use Rattle.sampler.specs.Sampler.{waited, lowAt, hunted, lookedAgain, finished, sampled, assembled, sampleOf}
 use Rattle.queue.specs.declared.queue.Queue.{Queue}
 use Rattle.queue.specs.Queue.{heldOf, emptyQueue, waitsOf, putOf, withoutWaitingOf, tookOf}
 use Rattle.receiver.specs.declared.receiver.Effect.the-variants.{NoEffect, Reset, ClearErrors, ClearBreakChange}
@@ -25,11 +26,13 @@ use Rattle.receiver.specs.declared.receiver.Fed.{Fed}
 use Rattle.receiver.specs.declared.receiver.Feed.{Feed}
 use Rattle.receiver.specs.declared.receiver.Feed.the-variants.{Nothing, Pulse, Command, Read, ChipReset}
 use Rattle.receiver.specs.declared.receiver.Enabling.the-variants.{Stays, Enables, Disables}
+use Rattle.receiver.specs.declared.receiver.Receiver.{Receiver}
 use Rattle.receiver.specs.Delivery.{Fate, written, ledgerFrom, Step, Show, after, given, reads, Delivers}
 use Rattle.receiver.specs.Delivery.Fate.{Held}
-use Rattle.receiver.specs.ReadBack.{sentAll}
+use Rattle.receiver.specs.ReadBack.{pulses, sentAll, ReadsBack}
+use Rattle.receiver.specs.Sound.{KeepsSound}
+use Rattle.receiver.specs.Receiver.{unread, withSampler, withChange, withQueue, effectOf, enablingOf, freshReceiver, startedOf, enteredOf, arrivedOf, pulsedOf, oldestRead, readOf, fedOf}
 use Rattle.receiver.specs.Status.{statusOf}
-use Rattle.receiver.specs.Receiver.{withQueue, effectOf, enablingOf, freshReceiver, startedOf, enteredOf, arrivedOf, pulsedOf, oldestRead, readOf, fedOf}
 
 -- what a feed leaves, with another queue
 abbrev queueInstead : Fed → Queue → Fed
@@ -158,3 +161,82 @@ unfolding fedOf effectOf enablingOf pulsedOf startedOf arrivedOf enteredOf readO
 no-neverReady h =
     let z : _≡_ {A = ℕ} 1 0 = ap length (h freshReceiver (line (1 ∷ []) ++ (Read ∷ [])) .fates) in
     omega arith
+
+-- ---- a receiver that does nothing ----
+
+abbrev idles : Step
+idles r e = unread r
+
+pub no-idles : Delivers idles statusOf → ⊥
+unfolding fedOf effectOf enablingOf pulsedOf startedOf arrivedOf enteredOf readOf oldestRead putOf withoutWaitingOf tookOf heldOf after reads given ledgerFrom written hears sampleOf hunted lowAt lookedAgain assembled sampled finished afterStop gapOf dataWidthOf samplesOf levels spread beforeStop parityBits bitsOf pick
+no-idles h =
+    let z : _≡_ {A = ℕ} 1 0 = ap length (h freshReceiver (line (1 ∷ [])) .fates) in
+    omega arith
+
+-- an idle, empty receiver
+abbrev ready : Receiver
+ready = withSampler freshReceiver (hunting true)
+
+pub no-idles-read : ReadsBack idles statusOf → ⊥
+unfolding fedOf effectOf enablingOf pulsedOf startedOf arrivedOf enteredOf readOf oldestRead putOf withoutWaitingOf tookOf heldOf after reads given ledgerFrom written hears sampleOf hunted lowAt lookedAgain assembled sampled finished afterStop gapOf dataWidthOf samplesOf levels spread beforeStop parityBits bitsOf pick
+no-idles-read h =
+    let z : _≡_ {A = ℕ} 0 1 = ap length (h eight 16 65 ready (omega arith) (omega arith) (record { hunts = refl; high = refl }) refl .held) in
+    omega arith
+
+-- ---- break change set by every feed ----
+
+abbrev changesAlways : Step
+changesAlways r e = record { receiver = withChange (fedOf r e .receiver) true; byte = fedOf r e .byte }
+
+pub no-changesAlways-read : ReadsBack changesAlways statusOf → ⊥
+unfolding fedOf effectOf enablingOf pulsedOf startedOf arrivedOf enteredOf readOf oldestRead putOf withoutWaitingOf tookOf heldOf after reads given ledgerFrom written hears sampleOf hunted lowAt lookedAgain assembled sampled finished afterStop gapOf dataWidthOf samplesOf levels spread beforeStop parityBits bitsOf pick
+no-changesAlways-read h =
+    let z : true ≡ false = h eight 16 65 ready (omega arith) (omega arith) (record { hunts = refl; high = refl }) refl .change in
+    true≢false z
+
+-- ---- more than four counted ----
+
+abbrev counted : ℕ → Queue → Queue
+counted n q = record { count = n; first = q .first; second = q .second; third = q .third; waiting = q .waiting }
+
+-- four held are counted as five; the places, and so what is read, are as they should be
+unfoldable pub overcounts : Step
+overcounts r e = pick (waitsOf (fedOf r e .receiver .queue)) (queueInstead (fedOf r e) (counted 5 (fedOf r e .receiver .queue))) (fedOf r e)
+
+pub no-overcounts : Delivers overcounts statusOf → ⊥
+unfolding overcounts fedOf effectOf enablingOf pulsedOf startedOf arrivedOf enteredOf readOf oldestRead putOf withoutWaitingOf tookOf heldOf after reads given ledgerFrom written hears sampleOf hunted lowAt lookedAgain assembled sampled finished afterStop gapOf dataWidthOf samplesOf levels spread beforeStop parityBits bitsOf pick
+no-overcounts h =
+    let z : 5 ≤ 4 = h freshReceiver (line (1 ∷ 2 ∷ 3 ∷ 4 ∷ [])) .four 1000 in
+    omega arith
+
+-- four held, and a start that is confirmed on the next low
+abbrev aboutToStart : Receiver
+aboutToStart = withSampler (withQueue freshReceiver (counted 4 emptyQueue)) (starting (at16 eight) (record { 0 = 0 }))
+
+pub no-overcounts-sound : KeepsSound overcounts → ⊥
+unfolding overcounts fedOf effectOf enablingOf pulsedOf startedOf arrivedOf enteredOf readOf oldestRead putOf withoutWaitingOf tookOf heldOf after reads given ledgerFrom written hears sampleOf hunted lowAt lookedAgain assembled sampled finished afterStop gapOf dataWidthOf samplesOf levels spread beforeStop parityBits bitsOf pick
+no-overcounts-sound h = true≢false (sym (h aboutToStart Nothing (record { ranges = refl; waiting = refl }) refl .ranges))
+
+-- the waiting place in use while a confirmed start is under way
+pub no-dropsArriving-sound : KeepsSound dropsArriving → ⊥
+unfolding dropsArriving fedOf effectOf enablingOf pulsedOf startedOf arrivedOf enteredOf readOf oldestRead putOf withoutWaitingOf tookOf heldOf after reads given ledgerFrom written hears sampleOf hunted lowAt lookedAgain assembled sampled finished afterStop gapOf dataWidthOf samplesOf levels spread beforeStop parityBits bitsOf pick
+no-dropsArriving-sound h = true≢false (sym (h aboutToStart (Pulse false (at16 eight)) (record { ranges = refl; waiting = refl }) refl .waiting))
+
+-- ---- a status that hides ----
+
+abbrev hidesOverrun : Show
+hidesOverrun r block = record { marks = statusOf r block .marks; overrun = false; full = statusOf r block .full; ready = statusOf r block .ready }
+
+pub no-hidesOverrun : Delivers fedOf hidesOverrun → ⊥
+unfolding fedOf effectOf enablingOf pulsedOf startedOf arrivedOf enteredOf readOf oldestRead putOf withoutWaitingOf tookOf heldOf after reads given ledgerFrom written hears sampleOf hunted lowAt lookedAgain assembled sampled finished afterStop gapOf dataWidthOf samplesOf levels spread beforeStop parityBits bitsOf pick
+no-hidesOverrun h = true≢false (sym (h freshReceiver (line (1 ∷ 2 ∷ 3 ∷ 4 ∷ 5 ∷ [])) .overrun false))
+
+abbrev hidesMarks : Show
+hidesMarks r block = record { marks = noMarks; overrun = r .overrun; full = statusOf r block .full; ready = statusOf r block .ready }
+
+-- shown by a break: a high, and then 160 lows
+pub no-hidesMarks : Delivers fedOf hidesMarks → ⊥
+unfolding fedOf effectOf enablingOf pulsedOf startedOf arrivedOf enteredOf readOf oldestRead putOf withoutWaitingOf tookOf heldOf after reads given ledgerFrom written hears sampleOf waited hunted lowAt lookedAgain assembled sampled finished afterStop gapOf dataWidthOf samplesOf withSample levels spread beforeStop parityBits bitsOf pick
+no-hidesMarks h =
+    let z : false ≡ true = ap (λ (m : Marks). m .broken) (h freshReceiver (line [] ++ pulses (at16 eight) (replicate 160 false)) .marks) in
+    true≢false (sym z)

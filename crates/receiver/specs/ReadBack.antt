@@ -1,6 +1,6 @@
 -- Demand 2: "A frame the transmitter sends is read back by an idle, enabled, empty, undisturbed receiver with the
 -- same format and 16X pulses as the same character, cut to its data bits, without an error mark." Assumes nothing.
-use Prim.Native.Nat.{ℕ}
+use Prim.Native.Nat.{ℕ, _≤_}
 use mathlib.Core.Path.{_≡_}
 use mathlib.Core.Bool.{Bool, true}
 use mathlib.Core.List.{List, [], _∷_, _++_}
@@ -16,9 +16,7 @@ use Rattle.queue.specs.Queue.{heldOf}
 use Rattle.receiver.specs.declared.receiver.Feed.{Feed}
 use Rattle.receiver.specs.declared.receiver.Feed.the-variants.{Pulse, Read}
 use Rattle.receiver.specs.declared.receiver.Receiver.{Receiver}
-use Rattle.receiver.specs.Delivery.{linesOver, after, given}
-use Rattle.receiver.specs.Receiver.{fedOf}
-use Rattle.receiver.specs.Status.{statusOf}
+use Rattle.receiver.specs.Delivery.{linesOver, Step, Show, after, given}
 
 -- levels, one a pulse
 abbrev pub pulses : Setting → List Bool → List Feed
@@ -45,13 +43,18 @@ cleanCuts f (x ∷ xs) = clean (cutOf (f .width .0) x) ∷ cleanCuts f xs
 
 -- Exactly one character arrives, the byte cut to its data bits and without a mark; it is the one held; a read gives it, and SR shows no
 -- mark before it; overrun and break change are as they were; the receiver is idle again.
-pub record ReadBack (f : Format) (n x : ℕ) (r : Receiver) : Type 0 where
+pub record ReadBack (step : Step) (show : Show) (f : Format) (n x : ℕ) (r : Receiver) : Type 0 where
   pub one : arrivals (r .sampler) (linesOver (sent f n x)) ≡ clean (cutOf (f .width .0) x) ∷ []
-  pub held : heldOf (after fedOf r (sent f n x) .queue) ≡ clean (cutOf (f .width .0) x) ∷ []
-  pub reading : given fedOf statusOf (after fedOf r (sent f n x)) Read ≡ clean (cutOf (f .width .0) x) ∷ []
-  pub overrun : after fedOf r (sent f n x) .overrun ≡ r .overrun
-  pub change : after fedOf r (sent f n x) .change ≡ r .change
-  pub idle : Idle (after fedOf r (sent f n x) .sampler)
+  pub held : heldOf (after step r (sent f n x) .queue) ≡ clean (cutOf (f .width .0) x) ∷ []
+  pub reading : given step show (after step r (sent f n x)) Read ≡ clean (cutOf (f .width .0) x) ∷ []
+  pub overrun : after step r (sent f n x) .overrun ≡ r .overrun
+  pub change : after step r (sent f n x) .change ≡ r .change
+  pub idle : Idle (after step r (sent f n x) .sampler)
+
+-- a receiver that reads back: any width that MR1 can choose, any parity, any stop of 9 sixteenths or more, any byte
+abbrev pub ReadsBack : Step → Show → Type 0
+ReadsBack step show =
+    (f : Format) (n x : ℕ) (r : Receiver) → f .width .0 ≤ 8 → 9 ≤ n → Idle (r .sampler) → heldOf (r .queue) ≡ [] → ReadBack step show f n x r
 
 -- Frames back to back: each byte arrives once, in order, cut to its data bits and without a mark, and the sampler is idle again.
 pub record ReadBackAll (f : Format) (n : ℕ) (xs : List ℕ) (s : Sampler) : Type 0 where

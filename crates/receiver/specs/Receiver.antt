@@ -71,11 +71,12 @@ unfoldable pub arrivedOf : Receiver → Came → Receiver
 arrivedOf r NoCharacter = r
 arrivedOf r (Arrival c) = enteredOf r c
 
--- One pulse: the confirmed start, then the arrival, of the sampler's answer.
+-- What the sampler answers to a pulse: the confirmed start, then the arrival.
+abbrev pub answeredOf : Receiver → Sampled → Receiver
+answeredOf r m = arrivedOf (startedOf (heardOf r (m .next) (m .change)) (m .started)) (m .came)
+
 unfoldable pub pulsedOf : Receiver → Bool → Setting → Receiver
-pulsedOf r level f =
-    let m : Sampled = sampleOf (r .sampler) level f in
-    arrivedOf (startedOf (heardOf r (m .next) (m .change)) (m .started)) (m .came)
+pulsedOf r level f = answeredOf r (sampleOf (r .sampler) level f)
 
 -- ---- a command ----
 

@@ -11,6 +11,7 @@ use Rattle.queue.specs.Sound.{queueInRange}
 use Rattle.receiver.specs.declared.receiver.Feed.{Feed}
 use Rattle.receiver.specs.declared.receiver.Feed.the-variants.{Nothing, Pulse, Command, Read, ChipReset}
 use Rattle.receiver.specs.declared.receiver.Receiver.{Receiver}
+use Rattle.receiver.specs.Delivery.{Step}
 
 abbrev pub receiverInRange : Receiver → Bool
 receiverInRange r = samplerInRange (r .sampler) && queueInRange (r .queue)
@@ -36,3 +37,7 @@ feedsInRange (e ∷ es) = feedInRange e && feedsInRange es
 pub record Sound (r : Receiver) : Type 0 where
   pub ranges : receiverInRange r ≡ true
   pub waiting : waitingSound r ≡ true
+
+-- a way to take a feed that keeps a receiver sound
+abbrev pub KeepsSound : Step → Type 0
+KeepsSound step = (r : Receiver) (e : Feed) → Sound r → feedInRange e ≡ true → Sound (step r e .receiver)

@@ -168,10 +168,8 @@ fn drop_character(receiver: Receiver) -> Receiver
 fn reset(receiver: Receiver) -> Receiver
     ensures { λ r. ⌜ r ≡ resetOf receiver ⌝ }
 {
-    let mut emptied = receiver;
-    let sampler = drop_assembly();
+    let mut emptied = drop_character(receiver);
     let queue = empty_queue();
-    emptied.sampler = sampler;
     emptied.queue = queue;
     emptied
 }

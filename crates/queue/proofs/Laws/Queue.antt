@@ -13,7 +13,7 @@ use Rattle.frame.specs.Pick.{pick}
 use Rattle.frame.proofs.Laws.Pick.{pick-all}
 use Rattle.character.specs.declared.character.Character.{Character}
 use Rattle.queue.specs.declared.queue.Queue.{Queue}
-use Rattle.queue.specs.Queue.{put, waits, withoutWaiting, took, replaced, heldOf, emptyQueue, isEmptyOf, isFullOf, oldestOf, waitsOf, putOf, withoutWaitingOf, tookOf, replacedOf}
+use Rattle.queue.specs.Queue.{put, withoutWaiting, took, replaced, heldOf, emptyQueue, isEmptyOf, oldestOf, putOf, withoutWaitingOf, tookOf, replacedOf}
 
 -- what holds at the numbers up to three, or up to four
 to-three : (P : ℕ → Type 0) → P 0 → P 1 → P 2 → P 3 → (n : ℕ) → n ≤ 3 → P n
@@ -62,12 +62,9 @@ pub held-empty : heldOf emptyQueue ≡ []
 unfolding heldOf
 held-empty = refl
 
-pub waits-held : (q : Queue) → q .count ≤ 4 → waitsOf q ≡ waits (heldOf q)
-waits-held q h = rw (held-length q h)
-
--- "FFULL: three in the queue."
-pub full-held : (q : Queue) → q .count ≤ 4 → isFullOf q ≡ leb 3 (length (heldOf q))
-full-held q h = rw (held-length q h)
+-- whether at least so many are held: four where one waits, and "FFULL: three in the queue."
+pub at-least-held : (q : Queue) (n : ℕ) → q .count ≤ 4 → leb n (q .count) ≡ leb n (length (heldOf q))
+at-least-held q n h = rw (held-length q h)
 
 -- ---- the oldest ----
 

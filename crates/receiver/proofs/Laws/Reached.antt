@@ -10,7 +10,7 @@ use Rattle.receiver.specs.declared.receiver.Feed.the-variants.{ChipReset
 use Rattle.receiver.specs.declared.receiver.Receiver.{Receiver}
 use Rattle.receiver.specs.Receiver.{freshReceiver, fedOf}
 use Rattle.receiver.specs.Delivery.{after}
-use Rattle.receiver.specs.Sound.{feedInRange, feedsInRange, Sound}
+use Rattle.receiver.specs.Sound.{feedInRange, feedsInRange, Sound, KeepsSound}
 use Rattle.receiver.proofs.Laws.Ranges.{ranges-kept}
 use Rattle.receiver.proofs.Laws.Waiting.{waiting-kept}
 
@@ -18,7 +18,7 @@ fresh-sound : Sound freshReceiver
 unfolding formatOf
 fresh-sound = record { ranges = refl; waiting = refl }
 
-pub sound-fed : (r : Receiver) (e : Feed) → Sound r → feedInRange e ≡ true → Sound (fedOf r e .receiver)
+pub sound-fed : KeepsSound fedOf
 sound-fed r e s h =
     let count : queueInRange (r .queue) ≡ true = and-eq-true-iff (samplerInRange (r .sampler)) _ .0 (s .ranges) .1 in
     record { ranges = ranges-kept r e (s .ranges) h; waiting = waiting-kept r e count (s .waiting) .1 }

@@ -24,7 +24,7 @@ use Rattle.receiver.specs.declared.receiver.Feed.the-variants.{Nothing, 
 use Rattle.receiver.specs.declared.receiver.Receiver.{Receiver}
 use Rattle.receiver.specs.declared.receiver.Enabling.{Enabling}
 use Rattle.receiver.specs.declared.receiver.Enabling.the-variants.{Stays, Enables, Disables}
-use Rattle.receiver.specs.Receiver.{heardOf, startedOf, enteredOf, arrivedOf, pulsedOf, effectOf, enablingOf, oldestRead, readOf, fedOf}
+use Rattle.receiver.specs.Receiver.{answeredOf, heardOf, startedOf, enteredOf, arrivedOf, pulsedOf, effectOf, enablingOf, oldestRead, readOf, fedOf}
 use Rattle.receiver.specs.Sound.{waitingSound}
 
 -- ---- the receiver ----
@@ -32,11 +32,7 @@ use Rattle.receiver.specs.Sound.{waitingSound}
 abbrev pub Room : Receiver → Type 0
 Room r = r .queue .count ≤ most (r .sampler)
 
--- the receiver after the sampler's answer
-abbrev pub answered : Receiver → Sampled → Receiver
-answered r m = arrivedOf (startedOf (heardOf r (m .next) (m .change)) (m .started)) (m .came)
-
-pub answered-sampler : (r : Receiver) (m : Sampled) → answered r m .sampler ≡ m .next
+pub answered-sampler : (r : Receiver) (m : Sampled) → answeredOf r m .sampler ≡ m .next
 unfolding arrivedOf enteredOf startedOf pick
 answered-sampler r m = go (m .started) (m .came)
   where
@@ -56,7 +52,7 @@ unfolding arrivedOf enteredOf
 arrived-count r NoCharacter h = refl
 arrived-count r (Arrival c) h = put-count (r .queue) c (omega arith)
 
-answered-room : (r : Receiver) (m : Sampled) → Roomy (r .queue .count) m → Room (answered r m)
+answered-room : (r : Receiver) (m : Sampled) → Roomy (r .queue .count) m → Room (answeredOf r m)
 answered-room r m h =
     let n : Receiver = startedOf (heardOf r (m .next) (m .change)) (m .started) in
     let four : grown (m .came) (n .queue .count) ≤ 4 = rw started-count (omega (arith, most-four (m .next))) in

@@ -65,9 +65,9 @@ unfolding hunted
 hunted-within s level f h =
     pick-all Next level _ _ (hunting-within true) (pick-all Next (s .high) _ _ (low-within f h) (hunting-within false))
 
-started-within : (s : Sampler) (level : Bool) → Within s → Next (lookedAgain s level)
+looked-again-within : (s : Sampler) (level : Bool) → Within s → Next (lookedAgain s level)
 unfolding lookedAgain
-started-within s level h =
+looked-again-within s level h =
     let l = h .left in
     pick-all Next (eqb (s .left .0) 0) _ _
     (pick-all Next level _ _ (hunting-within true) (confirmed-within (s .setting) (h .setting)))
@@ -131,7 +131,7 @@ waited-within s level f h =
 sample-within : (s : Sampler) (level : Bool) (f : Setting) → Within s → settingInRange f ≡ true → Within (sampleOf s level f .next)
 unfolding sampleOf
 sample-within s level f h k =
-    pick-all Next (eqb (s .phase) 1) _ _ (started-within s level h)
+    pick-all Next (eqb (s .phase) 1) _ _ (looked-again-within s level h)
     (pick-all Next (eqb (s .phase) 2) _ _ (assembled-within s level h)
     (pick-all Next (eqb (s .phase) 3) _ _ (followed-within s level f h k)
     (pick-all Next (eqb (s .phase) 4) _ _ (waited-within s level f h)

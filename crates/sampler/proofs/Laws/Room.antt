@@ -48,9 +48,9 @@ room-hunted : (n : ℕ) (s : Sampler) (level : Bool) (f : Setting) → n ≤ 4 �
 unfolding hunted pick
 room-hunted n s level f h = pick-all (Roomy n) level _ _ h (pick-all (Roomy n) (s .high) _ _ (room-low n f h) h)
 
-room-started : (n : ℕ) (s : Sampler) (level : Bool) → n ≤ 4 → Roomy n (lookedAgain s level)
+room-looked-again : (n : ℕ) (s : Sampler) (level : Bool) → n ≤ 4 → Roomy n (lookedAgain s level)
 unfolding lookedAgain pick
-room-started n s level h = pick-all (Roomy n) (eqb (s .left .0) 0) _ _ (pick-all (Roomy n) level _ _ h (room-confirmed n (s .setting))) h
+room-looked-again n s level h = pick-all (Roomy n) (eqb (s .left .0) 0) _ _ (pick-all (Roomy n) level _ _ h (room-confirmed n (s .setting))) h
 
 room-arrived : (n : ℕ) (f : Setting) (v : ℕ) (stop : Bool) → n ≤ 3 → Roomy n (arrived f v stop)
 unfolding afterStop pick
@@ -83,7 +83,7 @@ room-waited n s level f h =
 
 pub room-sample : (n : ℕ) (s : Sampler) (level : Bool) (f : Setting) → n ≤ most s → Roomy n (sampleOf s level f)
 unfolding sampleOf pick
-room-sample n s level f h = pick-all (Roomy n) (eqb (s .phase) 1) _ _ (room-started n s level four) (go (eqb (s .phase) 2) h)
+room-sample n s level f h = pick-all (Roomy n) (eqb (s .phase) 1) _ _ (room-looked-again n s level four) (go (eqb (s .phase) 2) h)
   where
     four : n ≤ 4
     four = omega (arith, most-four s)
