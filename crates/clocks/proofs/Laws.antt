@@ -1,0 +1,2 @@
+-- The laws of the clocks, a file a topic. Assumes nothing.
+pub mod Rates

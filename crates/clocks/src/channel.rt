@@ -1,0 +1,149 @@
+// What gives each side of a channel its pulses.
+use crate::divider::Divided;
+use crate::divider::Sixteenth;
+use crate::divider::divide;
+use crate::divider::divide_by_16;
+use crate::rates::period_of;
+use frame::Pulses;
+use frame::Ticks;
+ghost use mathlib.Core.Path.{_≡_};
+ghost use Rattle.clocks.specs.Channel.{restarted, restartedOnChange, isSixteen, tickedOf, sideOf, transmitterBit, clockedOf};
+
+// "13: the timer's toggle to high"
+const TIMER: u8 = 13;
+
+// "14 (16X), 15 (1X)": a pin
+const PIN_1X: u8 = 15;
+
+// A channel's phases.
+#[repr(C)]
+pub struct Phases {
+    // of the receiver's divider
+    pub receiver: Ticks,
+    // of the transmitter's divider
+    pub transmitter: Ticks,
+    // of the transmitter's 16X pulses, which make its 1X clock
+    pub sixteenths: Pulses,
+}
+
+// What an event brings to a channel's clocks.
+pub struct Beat {
+    // a tick of the crystal
+    pub tick: bool,
+    // the timer toggled to high
+    pub toggled: bool,
+    // the receiver's clock pin rose
+    pub rising: bool,
+    // the transmitter's clock pin fell
+    pub falling: bool,
+}
+
+// A channel's clocks after an event, and what it pulsed.
+pub struct Clocked {
+    pub phases: Phases,
+    pub receiver: bool,
+    pub transmitter: bool,
+    // the 1X transmitter clock
+    pub one: bool,
+}
+
+// "A CSR write restarts that channel's phases, the next pulse coming a full period later"
+pub fn restart() -> Phases
+    ensures { λ r. ⌜ r ≡ restarted ⌝ }
+{
+    Phases {
+        receiver: Ticks(0),
+        transmitter: Ticks(0),
+        sixteenths: Pulses(0),
+    }
+}
+
+// "a change of ACR bit 7 restarts all four": ACR before and after.
+pub fn restart_on_change(phases: Phases, before: u8, after: u8) -> Phases
+    ensures { λ r. ⌜ r ≡ restartedOnChange phases before after ⌝ }
+{
+    if before / 128 == after / 128 {
+        return phases;
+    }
+    restart()
+}
+
+// "14 (16X), 15 (1X)": every code but 15 gives 16X pulses.
+pub fn is_sixteen(code: u8) -> bool
+    ensures { λ r. ⌜ r ≡ isSixteen code ⌝ }
+{
+    code != PIN_1X
+}
+
+// A side's divider in an event: only a tick moves it.
+fn tick_side(phase: Ticks, period: Ticks, tick: bool) -> Divided
+    ensures { λ r. ⌜ r ≡ tickedOf phase period tick ⌝ }
+{
+    if tick {
+        return divide(phase, period);
+    }
+    Divided {
+        phase: phase,
+        pulse: false,
+    }
+}
+
+// One side in an event: its divider for codes 0 to 12, the timer for 13, its pin's edge for 14 and 15.
+fn side(phase: Ticks, second: bool, code: u8, beat: Beat, edge: bool) -> Divided
+    ensures { λ r. ⌜ r ≡ sideOf phase second code beat edge ⌝ }
+{
+    if code < TIMER {
+        return tick_side(phase, period_of(second, code), beat.tick);
+    }
+    if code == TIMER {
+        return Divided {
+            phase: phase,
+            pulse: beat.toggled,
+        };
+    }
+    Divided {
+        phase: phase,
+        pulse: edge,
+    }
+}
+
+// The 1X transmitter clock: "every 16th 16X pulse since that phase restarted, or each 1X pulse".
+fn transmitter_bit(phase: Pulses, code: u8, pulse: bool) -> Sixteenth
+    ensures { λ r. ⌜ r ≡ transmitterBit phase code pulse ⌝ }
+{
+    if pulse {
+        if is_sixteen(code) {
+            return divide_by_16(phase);
+        }
+        return Sixteenth {
+            phase: phase,
+            pulse: true,
+        };
+    }
+    Sixteenth {
+        phase: phase,
+        pulse: false,
+    }
+}
+
+// A channel's clocks in an event. "CSR bits 7-4 receiver, 3-0 transmitter."; the set is ACR bit 7's.
+pub fn clock_channel(phases: Phases, second: bool, csr: u8, beat: Beat) -> Clocked
+    ensures { λ r. ⌜ r ≡ clockedOf phases second csr beat ⌝ }
+{
+    let receiver = side(phases.receiver, second, csr / 16, beat, beat.rising);
+    let transmitter = side(phases.transmitter, second, csr % 16, beat, beat.falling);
+    let bit = transmitter_bit(phases.sixteenths, csr % 16, transmitter.pulse);
+    let receiver_phase = receiver.phase;
+    let transmitter_phase = transmitter.phase;
+    let sixteenths = bit.phase;
+    Clocked {
+        phases: Phases {
+            receiver: receiver_phase,
+            transmitter: transmitter_phase,
+            sixteenths,
+        },
+        receiver: receiver.pulse,
+        transmitter: transmitter.pulse,
+        one: bit.pulse,
+    }
+}

@@ -1,0 +1,1 @@
+-- The laws of one transmitter, a file a topic. Assumes nothing.

@@ -1,0 +1,2 @@
+-- The laws that the crates above cite, and the theorems.
+pub mod Laws

@@ -1,0 +1,18 @@
+-- `take_frame` meets its contract: it is what its callees answer. Assumes nothing.
+use borrow.Author.Needs.{needs}
+use Rattle.transmitter.specs.Sending.{takenOf}
+use Rattle.transmitter.proofs.sending.take_frame.Statement.{statement}
+use Rattle.transmitter.proofs.sending.take_frame.Tie as tie
+
+frame-bits-requires : tie.Need-frame-bits-requires
+frame-bits-requires c κs = search needs
+
+frame-length-requires : tie.Need-frame-length-requires
+frame-length-requires c κs = search needs
+
+returns : tie.Need-returns
+unfolding takenOf
+returns c = simp (c .frame-length .ensures, c .before .frame-bits .ensures)
+
+pub take-frame-spec : {M : Type 1} → statement M
+take-frame-spec = tie.close (tie.spec frame-bits-requires frame-length-requires returns)

@@ -1,0 +1,174 @@
+-- What is owed of a transmitter over any list of inputs, said of any way `step` to take an input, so that it can be proved of one and
+-- proved false of others: a character that can start does start, and TxD then has the levels of its frame, one a pulse. Assumes nothing.
+use Prim.Native.Nat.{ℕ, suc, _-_, _<_}
+use mathlib.Core.Path.{_≡_}
+use mathlib.Core.Bool.{Bool, true, false, _&&_}
+use mathlib.Core.List.{List, [], _∷_, _++_}
+use lib.Dec.{eqb, ltb, leb}
+use lib.ListN.{length, getD, replicate}
+use Rattle.frame.specs.Pick.{pick}
+use Rattle.frame.specs.Format.{formatOf, stopCodeOf}
+use Rattle.frame.specs.Levels.{frame}
+use Rattle.transmitter.specs.declared.sending.Standing.{Standing}
+use Rattle.transmitter.specs.declared.state.Transmitter.{Transmitter}
+use Rattle.transmitter.specs.declared.transmitter.Input.{Input}
+use Rattle.transmitter.specs.declared.transmitter.Input.the-variants.{Nothing, Pulse, Write, Enable, Disable, StartBreak, StopBreak, Reset, ChipReset}
+use Rattle.transmitter.specs.Sending.{clearToSend, canStart}
+use Rattle.transmitter.specs.Status.{shifterEmpty}
+
+-- ---- lists of inputs ----
+
+-- a way to take an input
+abbrev pub Step : Type 0
+Step = Transmitter → Input → Transmitter
+
+-- the transmitter after some inputs
+unfoldable pub after : Step → Transmitter → List Input → Transmitter
+after step t [] = t
+after step t (x ∷ xs) = after step (step t x) xs
+
+abbrev pub isPulse : Input → Bool
+isPulse Nothing = false
+isPulse (Pulse s) = true
+isPulse (Write byte) = false
+isPulse Enable = false
+isPulse Disable = false
+isPulse StartBreak = false
+isPulse StopBreak = false
+isPulse Reset = false
+isPulse ChipReset = false
+
+-- how many pulses there are among them
+unfoldable pub pulsesIn : List Input → ℕ
+pulsesIn [] = 0
+pulsesIn (x ∷ xs) = pick (isPulse x) (suc (pulsesIn xs)) (pulsesIn xs)
+
+-- TxD after each pulse, in order
+unfoldable pub line : Step → Transmitter → List Input → List Bool
+line step t [] = []
+line step t (x ∷ xs) = pick (isPulse x) (step t x .txd ∷ line step (step t x) xs) (line step (step t x) xs)
+
+-- any input but a transmitter or chip reset
+abbrev pub keeps : Input → Bool
+keeps Nothing = true
+keeps (Pulse s) = true
+keeps (Write byte) = true
+keeps Enable = true
+keeps Disable = true
+keeps StartBreak = true
+keeps StopBreak = true
+keeps Reset = false
+keeps ChipReset = false
+
+abbrev pub noReset : List Input → Bool
+noReset [] = true
+noReset (x ∷ xs) = keeps x && noReset xs
+
+-- ---- a character that can start ----
+
+-- "idle, .. at the earliest on the pulse after a frame's last": nothing is being sent and no high bit is owed, or all of a frame has come
+abbrev pub free : Transmitter → Bool
+free t = pick (eqb (t .phase) 1) (leb (t .shifter .length .0) (t .shifter .sent .0)) (eqb (t .phase) 0)
+
+-- "A character starts on a pulse if enabled, idle, the holding place is full and CTS (if chosen; IP0 for A, IP1 for B) is low"
+pub record Startable (t : Transmitter) (s : Standing) : Type 0 where
+  pub idle : free t ≡ true
+  pub enabled : t .enabled ≡ true
+  pub full : t .full ≡ true
+  pub clear : clearToSend s ≡ true
+
+-- the levels of a byte's frame, in the format and with the clock that a pulse finds
+abbrev pub frameAt : Standing → ℕ → List Bool
+frameAt s byte = frame (s .sixteen) (formatOf (s .mr1)) (stopCodeOf (s .mr2)) byte
+
+-- ---- the statements ----
+
+-- Once a character has started, whatever else comes but a reset: enable, disable, writes, breaks, CTS, other formats and clocks.
+pub record Sends (step : Step) : Type 0 where
+  -- TxD after the k-th pulse is level k-1 of its frame, and stays so until the next pulse. The list may end anywhere.
+  pub level : (t : Transmitter) (s : Standing) (xs : List Input) → Startable t s → noReset xs ≡ true → pulsesIn xs < length (frameAt s (t .holding))
+      → after step t (Pulse s ∷ xs) .txd ≡ getD (frameAt s (t .holding)) (pulsesIn xs) true
+  -- as long as its frame lasts the shifter holds it
+  pub holds : (t : Transmitter) (s : Standing) (xs : List Input) → Startable t s → noReset xs ≡ true → pulsesIn xs < length (frameAt s (t .holding))
+      → shifterEmpty (after step t (Pulse s ∷ xs)) ≡ false
+  -- it has left the holding place
+  pub leaves : (t : Transmitter) (s : Standing) → Startable t s → step t (Pulse s) .full ≡ false
+  -- after the frame's last pulse another character may start on the next one, and if none can, the shifter is empty then
+  pub over : (t : Transmitter) (s : Standing) (xs : List Input) → Startable t s → noReset xs ≡ true → suc (pulsesIn xs) ≡ length (frameAt s (t .holding))
+      → (free (after step t (Pulse s ∷ xs)) ≡ true)
+      × ((u : Standing) → canStart (after step t (Pulse s ∷ xs)) u ≡ false → shifterEmpty (step (after step t (Pulse s ∷ xs)) (Pulse u)) ≡ true)
+
+-- Bytes, each written while the frame before it is sent, after so many more of its pulses than the first.
+abbrev pub inTime : ℕ → List (ℕ × ℕ) → Bool
+inTime n [] = true
+inTime n ((later, byte) ∷ l) = ltb later n && inTime n l
+
+-- all the pulses of a first frame of `n`, and of those of the bytes that are written meanwhile
+abbrev pub stream : Standing → ℕ → List (ℕ × ℕ) → List Input
+stream s n [] = replicate n (Pulse s)
+stream s n ((later, byte) ∷ l) = replicate (suc later) (Pulse s) ++ Write byte ∷ replicate (n - suc later) (Pulse s) ++ stream s n l
+
+abbrev pub framesOf : Standing → ℕ → List (ℕ × ℕ) → List Bool
+framesOf s first [] = frameAt s first
+framesOf s first ((later, byte) ∷ l) = frameAt s first ++ framesOf s byte l
+
+-- Characters written in time go back to back: no pulse lies between their frames.
+abbrev pub GoesBackToBack : Step → Type 0
+GoesBackToBack step =
+    (t : Transmitter) (s : Standing) (first : ℕ) (l : List (ℕ × ℕ)) → free t ≡ true → t .enabled ≡ true → clearToSend s ≡ true
+    → inTime (length (frameAt s first)) l ≡ true
+    → line step t (Write first ∷ stream s (length (frameAt s first)) l) ≡ framesOf s first l
+
+-- ---- a break ----
+
+-- any input but a stop break, a disable or a reset: "stop, disable or reset ends it, nothing else"
+abbrev pub leavesBreak : Input → Bool
+leavesBreak Nothing = true
+leavesBreak (Pulse s) = true
+leavesBreak (Write byte) = true
+leavesBreak Enable = true
+leavesBreak Disable = false
+leavesBreak StartBreak = true
+leavesBreak StopBreak = false
+leavesBreak Reset = false
+leavesBreak ChipReset = false
+
+abbrev pub unended : List Input → Bool
+unended [] = true
+unended (x ∷ xs) = leavesBreak x && unended xs
+
+-- pulses of this clock, and anything else but a chip reset
+abbrev pub clockedAt : Bool → Input → Bool
+clockedAt sixteen Nothing = true
+clockedAt true (Pulse s) = s .sixteen
+clockedAt false (Pulse s) = pick (s .sixteen) false true
+clockedAt sixteen (Write byte) = true
+clockedAt sixteen Enable = true
+clockedAt sixteen Disable = true
+clockedAt sixteen StartBreak = true
+clockedAt sixteen StopBreak = true
+clockedAt sixteen Reset = true
+clockedAt sixteen ChipReset = false
+
+abbrev pub allAt : Bool → List Input → Bool
+allAt sixteen [] = true
+allAt sixteen (x ∷ xs) = clockedAt sixteen x && allAt sixteen xs
+
+-- the inputs that end a break and are no chip reset
+pub data Ends : Input → Type 0 where
+  stops : Ends StopBreak
+  disables : Ends Disable
+  resets : Ends Reset
+
+pub record Breaks (step : Step) : Type 0 where
+  -- "A break begins on a pulse, when idle and no character can start", and TxD is low until a stop, a disable or a reset
+  pub low : (t : Transmitter) (s : Standing) (xs : List Input) → free t ≡ true → canStart t s ≡ false → t .asked ≡ true → unended xs ≡ true
+      → after step t (Pulse s ∷ xs) .txd ≡ false
+  -- "else TxD is high at once, and for one bit (16 pulses, or 1) before a start or a new break": whatever comes meanwhile
+  pub high : (t : Transmitter) (s : Standing) (xs : List Input) (x : Input) (sixteen : Bool) (ys : List Input)
+      → free t ≡ true → canStart t s ≡ false → t .asked ≡ true → unended xs ≡ true → Ends x → allAt sixteen ys ≡ true
+      → pulsesIn ys < suc (pick sixteen 16 1) → after step t (Pulse s ∷ xs ++ x ∷ ys) .txd ≡ true
+  -- and then a character may start, or a new break begin
+  pub done : (t : Transmitter) (s : Standing) (xs : List Input) (x : Input) (sixteen : Bool) (ys : List Input)
+      → free t ≡ true → canStart t s ≡ false → t .asked ≡ true → unended xs ≡ true → Ends x → allAt sixteen ys ≡ true
+      → pulsesIn ys ≡ pick sixteen 16 1 → free (after step t (Pulse s ∷ xs ++ x ∷ ys)) ≡ true

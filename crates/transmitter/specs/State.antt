@@ -1,0 +1,43 @@
+-- What a transmitter holds. Assumes nothing.
+use Prim.Native.Nat.{ℕ}
+use mathlib.Core.Bool.{Bool, true, false}
+use Rattle.frame.specs.declared.counts.Pulses.{Pulses}
+use Rattle.transmitter.specs.declared.state.Shifter.{Shifter}
+use Rattle.transmitter.specs.declared.state.Transmitter.{Transmitter}
+
+-- a shifter that nothing has been put into
+abbrev pub emptyShifter : Shifter
+emptyShifter = record { frame = record { 0 = 0 }; sixteen = false; length = record { 0 = 0 }; sent = record { 0 = 0 } }
+
+-- "Chip reset: .. both sides disabled, .. holding places, shifters .. empty, TxD high"
+abbrev pub freshTransmitter : Transmitter
+freshTransmitter =
+    record { enabled = false; full = false; holding = 0; phase = 0; shifter = emptyShifter; left = record { 0 = 0 }; asked = false; txd = true }
+
+-- ---- a transmitter with another part ----
+
+abbrev pub withEnabled : Transmitter → Bool → Transmitter
+withEnabled t x =
+    record { enabled = x; full = t .full; holding = t .holding; phase = t .phase; shifter = t .shifter; left = t .left; asked = t .asked; txd = t .txd }
+
+-- another holding place: whether it is full, and with what
+abbrev pub withHolding : Transmitter → Bool → ℕ → Transmitter
+withHolding t x byte =
+    record { enabled = t .enabled; full = x; holding = byte; phase = t .phase; shifter = t .shifter; left = t .left; asked = t .asked; txd = t .txd }
+
+-- doing something else, with TxD at this level
+abbrev pub withPhase : Transmitter → ℕ → Bool → Transmitter
+withPhase t x level =
+    record { enabled = t .enabled; full = t .full; holding = t .holding; phase = x; shifter = t .shifter; left = t .left; asked = t .asked; txd = level }
+
+abbrev pub withShifter : Transmitter → Shifter → Transmitter
+withShifter t x =
+    record { enabled = t .enabled; full = t .full; holding = t .holding; phase = t .phase; shifter = x; left = t .left; asked = t .asked; txd = t .txd }
+
+abbrev pub withLeft : Transmitter → Pulses → Transmitter
+withLeft t x =
+    record { enabled = t .enabled; full = t .full; holding = t .holding; phase = t .phase; shifter = t .shifter; left = x; asked = t .asked; txd = t .txd }
+
+abbrev pub withAsked : Transmitter → Bool → Transmitter
+withAsked t x =
+    record { enabled = t .enabled; full = t .full; holding = t .holding; phase = t .phase; shifter = t .shifter; left = t .left; asked = x; txd = t .txd }

@@ -1,0 +1,100 @@
+// What the program does to a transmitter: a write, and the commands.
+use crate::state::AFTER_BREAK;
+use crate::state::IDLE;
+use crate::state::IN_BREAK;
+use crate::state::Transmitter;
+use crate::state::empty_shifter;
+use frame::Pulses;
+ghost use mathlib.Core.Path.{_≡_};
+ghost use Rattle.transmitter.specs.Commands.{writtenOf, enabledOf, highAfter, breakEnded, disabledOf, droppedOf, resetOf, breakAsked};
+
+// "A write while disabled is ignored; a second write replaces the first."
+pub fn write(transmitter: Transmitter, byte: u8) -> Transmitter
+    ensures { λ r. ⌜ r ≡ writtenOf transmitter byte ⌝ }
+{
+    let mut t = transmitter;
+    if transmitter.enabled {
+        t.full = true;
+        t.holding = byte;
+        return t;
+    }
+    t
+}
+
+pub fn enable(transmitter: Transmitter) -> Transmitter
+    ensures { λ r. ⌜ r ≡ enabledOf transmitter ⌝ }
+{
+    let mut t = transmitter;
+    t.enabled = true;
+    t
+}
+
+// "TxD is high at once, and for one bit"
+fn high_after(transmitter: Transmitter) -> Transmitter
+    ensures { λ r. ⌜ r ≡ highAfter transmitter ⌝ }
+{
+    let left = Pulses(15);
+    let mut t = transmitter;
+    t.phase = AFTER_BREAK;
+    t.left = left;
+    t.txd = true;
+    t
+}
+
+// A break's end: "one not yet begun is just dropped".
+pub fn end_break(transmitter: Transmitter) -> Transmitter
+    ensures { λ r. ⌜ r ≡ breakEnded transmitter ⌝ }
+{
+    let mut t = transmitter;
+    t.asked = false;
+    if transmitter.phase == IN_BREAK {
+        return high_after(t);
+    }
+    t
+}
+
+// "Disable lets the shifter finish and keeps the holding place."
+pub fn disable(transmitter: Transmitter) -> Transmitter
+    ensures { λ r. ⌜ r ≡ disabledOf transmitter ⌝ }
+{
+    let mut t = end_break(transmitter);
+    t.enabled = false;
+    t
+}
+
+// "disabled, all dropped, TxD high": what is held is dropped, and the high bit after a break stays owed.
+fn drop_all(transmitter: Transmitter) -> Transmitter
+    ensures { λ r. ⌜ r ≡ droppedOf transmitter ⌝ }
+{
+    let shifter = empty_shifter();
+    let mut t = transmitter;
+    t.enabled = false;
+    t.full = false;
+    t.holding = 0;
+    t.shifter = shifter;
+    t.txd = true;
+    if transmitter.phase == AFTER_BREAK {
+        return t;
+    }
+    t.phase = IDLE;
+    t
+}
+
+// "3 reset transmitter"
+pub fn reset(transmitter: Transmitter) -> Transmitter
+    ensures { λ r. ⌜ r ≡ resetOf transmitter ⌝ }
+{
+    drop_all(end_break(transmitter))
+}
+
+// "start break while disabled is ignored"; while one is being sent there is nothing to ask for.
+pub fn ask_break(transmitter: Transmitter) -> Transmitter
+    ensures { λ r. ⌜ r ≡ breakAsked transmitter ⌝ }
+{
+    let mut t = transmitter;
+    if transmitter.phase == IN_BREAK {
+        return t;
+    }
+    t.asked = transmitter.asked | transmitter.enabled;
+    t
+}
