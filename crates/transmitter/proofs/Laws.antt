@@ -1,1 +1,3 @@
 -- The laws of one transmitter, a file a topic. Assumes nothing.
+pub mod Ranges
+pub mod Free

@@ -1,2 +1,7 @@
 -- The laws that the crates above cite, and the theorems.
 pub mod Laws
+pub mod Frames
+pub mod Breaks
+pub mod Obeys
+pub mod Wrong
+pub mod Examples

@@ -83,6 +83,13 @@ frameAt s byte = frame (s .sixteen) (formatOf (s .mr1)) (stopCodeOf (s .mr2)) by
 
 -- ---- the statements ----
 
+-- A pulse on which nothing starts: TxD is high, and the holding place and the shifter are as they were, the shifter empty.
+pub record Rests (t u : Transmitter) : Type 0 where
+  pub high : u .txd ≡ true
+  pub empty : shifterEmpty u ≡ true
+  pub full : u .full ≡ t .full
+  pub holding : u .holding ≡ t .holding
+
 -- Once a character has started, whatever else comes but a reset: enable, disable, writes, breaks, CTS, other formats and clocks.
 pub record Sends (step : Step) : Type 0 where
   -- TxD after the k-th pulse is level k-1 of its frame, and stays so until the next pulse. The list may end anywhere.
@@ -97,6 +104,8 @@ pub record Sends (step : Step) : Type 0 where
   pub over : (t : Transmitter) (s : Standing) (xs : List Input) → Startable t s → noReset xs ≡ true → suc (pulsesIn xs) ≡ length (frameAt s (t .holding))
       → (free (after step t (Pulse s ∷ xs)) ≡ true)
       × ((u : Standing) → canStart (after step t (Pulse s ∷ xs)) u ≡ false → shifterEmpty (step (after step t (Pulse s ∷ xs)) (Pulse u)) ≡ true)
+  -- none starts but one that can
+  pub rests : (t : Transmitter) (s : Standing) → free t ≡ true → canStart t s ≡ false → t .asked ≡ false → Rests t (step t (Pulse s))
 
 -- Bytes, each written while the frame before it is sent, after so many more of its pulses than the first.
 abbrev pub inTime : ℕ → List (ℕ × ℕ) → Bool
@@ -118,57 +127,3 @@ GoesBackToBack step =
     (t : Transmitter) (s : Standing) (first : ℕ) (l : List (ℕ × ℕ)) → free t ≡ true → t .enabled ≡ true → clearToSend s ≡ true
     → inTime (length (frameAt s first)) l ≡ true
     → line step t (Write first ∷ stream s (length (frameAt s first)) l) ≡ framesOf s first l
-
--- ---- a break ----
-
--- any input but a stop break, a disable or a reset: "stop, disable or reset ends it, nothing else"
-abbrev pub leavesBreak : Input → Bool
-leavesBreak Nothing = true
-leavesBreak (Pulse s) = true
-leavesBreak (Write byte) = true
-leavesBreak Enable = true
-leavesBreak Disable = false
-leavesBreak StartBreak = true
-leavesBreak StopBreak = false
-leavesBreak Reset = false
-leavesBreak ChipReset = false
-
-abbrev pub unended : List Input → Bool
-unended [] = true
-unended (x ∷ xs) = leavesBreak x && unended xs
-
--- pulses of this clock, and anything else but a chip reset
-abbrev pub clockedAt : Bool → Input → Bool
-clockedAt sixteen Nothing = true
-clockedAt true (Pulse s) = s .sixteen
-clockedAt false (Pulse s) = pick (s .sixteen) false true
-clockedAt sixteen (Write byte) = true
-clockedAt sixteen Enable = true
-clockedAt sixteen Disable = true
-clockedAt sixteen StartBreak = true
-clockedAt sixteen StopBreak = true
-clockedAt sixteen Reset = true
-clockedAt sixteen ChipReset = false
-
-abbrev pub allAt : Bool → List Input → Bool
-allAt sixteen [] = true
-allAt sixteen (x ∷ xs) = clockedAt sixteen x && allAt sixteen xs
-
--- the inputs that end a break and are no chip reset
-pub data Ends : Input → Type 0 where
-  stops : Ends StopBreak
-  disables : Ends Disable
-  resets : Ends Reset
-
-pub record Breaks (step : Step) : Type 0 where
-  -- "A break begins on a pulse, when idle and no character can start", and TxD is low until a stop, a disable or a reset
-  pub low : (t : Transmitter) (s : Standing) (xs : List Input) → free t ≡ true → canStart t s ≡ false → t .asked ≡ true → unended xs ≡ true
-      → after step t (Pulse s ∷ xs) .txd ≡ false
-  -- "else TxD is high at once, and for one bit (16 pulses, or 1) before a start or a new break": whatever comes meanwhile
-  pub high : (t : Transmitter) (s : Standing) (xs : List Input) (x : Input) (sixteen : Bool) (ys : List Input)
-      → free t ≡ true → canStart t s ≡ false → t .asked ≡ true → unended xs ≡ true → Ends x → allAt sixteen ys ≡ true
-      → pulsesIn ys < suc (pick sixteen 16 1) → after step t (Pulse s ∷ xs ++ x ∷ ys) .txd ≡ true
-  -- and then a character may start, or a new break begin
-  pub done : (t : Transmitter) (s : Standing) (xs : List Input) (x : Input) (sixteen : Bool) (ys : List Input)
-      → free t ≡ true → canStart t s ≡ false → t .asked ≡ true → unended xs ≡ true → Ends x → allAt sixteen ys ≡ true
-      → pulsesIn ys ≡ pick sixteen 16 1 → free (after step t (Pulse s ∷ xs ++ x ∷ ys)) ≡ true

@@ -114,7 +114,8 @@ fn send_on(transmitter: Transmitter, standing: Standing) -> Transmitter
     if shifter.sent.0 < shifter.length.0 {
         let bit = bit_of_pulse(shifter.sixteen, shifter.sent);
         let level = frame::level_of(shifter.frame, bit);
-        let sent = Pulses(shifter.sent.0 + 1);
+        let next = shifter.sent.0 + 1;
+        let sent = Pulses(next);
         shifter.sent = sent;
         let mut t = transmitter;
         t.shifter = shifter;

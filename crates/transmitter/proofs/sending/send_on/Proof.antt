@@ -11,8 +11,8 @@ bit-of-pulse-requires c κs = search needs
 level-of-requires : tie.Need-level-of-requires
 level-of-requires c κs = search needs
 
-add-t9 : tie.Need-add-t9
-add-t9 c = search needs
+add-next : tie.Need-add-next
+add-next c = search needs
 
 returns : tie.Need-returns
 unfolding sentOnOf
@@ -28,4 +28,4 @@ returns-2 c = simp (c .begin .ensures) (search steps)
 pub send-on-spec : {M : Type 1} → statement M
 send-on-spec =
     tie.close
-    (tie.spec bit-of-pulse-requires level-of-requires add-t9 returns begin-requires returns-2)
+    (tie.spec bit-of-pulse-requires level-of-requires add-next returns begin-requires returns-2)

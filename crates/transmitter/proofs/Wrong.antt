@@ -1,0 +1,278 @@
+-- The statements shut wrong transmitters out. Each takes inputs as `afterInput` does but for one fault, and each is refuted by computing
+-- what becomes of a short frame, a pair of them or a break: `Sends` is false of eight, `GoesBackToBack` of two, `Breaks` of four,
+-- `Obeys` of two, `KeepsRanges` of one. Assumes nothing.
+use Prim.Native.Nat.{ℕ, suc}
+use mathlib.Core.Path.{_≡_, refl, sym, ap}
+use mathlib.Core.Bool.{Bool, true, false, _&&_, true≢false}
+use mathlib.Core.List.{List, [], _∷_}
+use native.Mathlib.Omega.{arith}
+use lib.Dec.{eqb, leb}
+use lib.ListN.{getD, replicate}
+use Rattle.frame.specs.Digits.{bitsOf, valueOf}
+use Rattle.frame.specs.Format.{formatOf, stopCodeOf}
+use Rattle.frame.specs.Levels.{beforeStop, bitsBeforeStopOf, spread, levels, frame, frameLengthOf, frameBitsOf, levelOf}
+use Rattle.frame.specs.Parity.{parityBits}
+use Rattle.frame.specs.Pick.{pick}
+use Rattle.frame.specs.Stop.{stopLengthOf, stopBitsOf}
+use Rattle.transmitter.specs.declared.sending.Standing.{Standing}
+use Rattle.transmitter.specs.declared.state.Shifter.{Shifter}
+use Rattle.transmitter.specs.declared.state.Transmitter.{Transmitter}
+use Rattle.transmitter.specs.declared.transmitter.Input.{Input}
+use Rattle.transmitter.specs.declared.transmitter.Input.the-variants.{Nothing, Pulse, Write, Enable, Disable, StartBreak, StopBreak, Reset, ChipReset}
+use Rattle.transmitter.specs.State.{emptyShifter, freshTransmitter, withEnabled, withHolding, withPhase, withShifter, withLeft, withAsked}
+use Rattle.transmitter.specs.Sending.{canStart, takenOf, startedOf, breakBegun, idleOf, begunOf, bitOfPulse, oneMore, sentOnOf, heldHigh, pulsedOf}
+use Rattle.transmitter.specs.Commands.{writtenOf, enabledOf, highAfter, breakEnded, disabledOf, resetOf, breakAsked}
+use Rattle.transmitter.specs.Transmitter.{afterInput}
+use Rattle.transmitter.specs.Frames.{Step, after, pulsesIn, line, free, Startable, Sends, GoesBackToBack}
+use Rattle.transmitter.specs.Breaks.{Breaks}
+use Rattle.transmitter.specs.Breaks.Ends.{stops}
+use Rattle.transmitter.specs.Obeys.{Obeys}
+use Rattle.transmitter.specs.Sound.{KeepsRanges}
+
+-- ---- one fault ----
+
+-- `afterInput` with other ways to take a pulse, a write, a disable and a stop break
+abbrev taking : (Transmitter → Standing → Transmitter) → (Transmitter → ℕ → Transmitter) → (Transmitter → Transmitter) → (Transmitter → Transmitter)
+    → Step
+taking pulse write disable stop t Nothing = t
+taking pulse write disable stop t (Pulse s) = pulse t s
+taking pulse write disable stop t (Write byte) = write t byte
+taking pulse write disable stop t Enable = enabledOf t
+taking pulse write disable stop t Disable = disable t
+taking pulse write disable stop t StartBreak = breakAsked t
+taking pulse write disable stop t StopBreak = stop t
+taking pulse write disable stop t Reset = resetOf t
+taking pulse write disable stop t ChipReset = freshTransmitter
+
+abbrev pulsing : (Transmitter → Standing → Transmitter) → Step
+pulsing pulse = taking pulse writtenOf disabledOf breakEnded
+
+-- with none of them another it is the right one
+none-other : (t : Transmitter) (x : Input) → pulsing pulsedOf t x ≡ afterInput t x
+unfolding afterInput
+none-other t Nothing = refl
+none-other t (Pulse s) = refl
+none-other t (Write byte) = refl
+none-other t Enable = refl
+none-other t Disable = refl
+none-other t StartBreak = refl
+none-other t StopBreak = refl
+none-other t Reset = refl
+none-other t ChipReset = refl
+
+-- MR1 16 and MR2 7 at 1X: a frame of seven pulses, 5 data bits, no parity, one stop bit
+abbrev once : Standing
+once = record { mr1 = 16; mr2 = 7; sixteen = false; cts = false }
+
+abbrev enabled : Transmitter
+enabled = withEnabled freshTransmitter true
+
+-- a character that can start
+abbrev ready : ℕ → Transmitter
+ready byte = withHolding enabled true byte
+
+abbrev pulses : ℕ → List Input
+pulses n = replicate n (Pulse once)
+
+startable : (byte : ℕ) → Startable (ready byte) once
+unfolding pick
+startable byte = record { idle = refl; enabled = refl; full = refl; clear = refl }
+
+-- ---- the next character on the frame's last pulse ----
+
+unfoldable pub startsEarly : Step
+startsEarly =
+    pulsing
+    (λ t s.
+    let last : Bool = eqb (t .phase) 1 && eqb (suc (t .shifter .sent .0)) (t .shifter .length .0) in
+    pick (last && canStart t s) (startedOf t s) (pulsedOf t s))
+
+pub no-startsEarly : Sends startsEarly → ⊥
+unfolding startsEarly after pulsesIn pulsedOf sentOnOf begunOf takenOf writtenOf pick frame levels spread beforeStop bitsOf parityBits formatOf frameLengthOf bitsBeforeStopOf stopBitsOf
+no-startsEarly h =
+    let z : false ≡ true = h .level (ready 0) once (Write 0 ∷ pulses 6) (startable 0) refl (omega arith) in
+    true≢false (sym z)
+
+-- ---- the format on every pulse ----
+
+unfoldable pub readsFormat : Step
+readsFormat =
+    pulsing
+    (λ t s.
+    pulsedOf
+    (withShifter t
+    (record {
+      frame = t .shifter .frame;
+      sixteen = s .sixteen;
+      length = frameLengthOf (s .sixteen) (formatOf (s .mr1)) (stopCodeOf (s .mr2));
+      sent = t .shifter .sent;
+    }))
+    s)
+
+-- the clock goes to 16X after the start
+pub no-readsFormat : Sends readsFormat → ⊥
+unfolding readsFormat after pulsesIn pulsedOf sentOnOf begunOf takenOf bitOfPulse pick frame levels spread beforeStop bitsOf parityBits formatOf levelOf frameBitsOf valueOf frameLengthOf bitsBeforeStopOf stopLengthOf
+no-readsFormat h =
+    let z : false ≡ true =
+    h .level (ready 1) once (Pulse (record { mr1 = 16; mr2 = 7; sixteen = true; cts = false }) ∷ []) (startable 1) refl (omega arith) in
+    true≢false (sym z)
+
+-- ---- the shifter dropped by a disable ----
+
+-- "Disable lets the shifter finish"
+unfoldable pub disableDrops : Step
+disableDrops = taking pulsedOf writtenOf (λ t. pick (eqb (t .phase) 1) (idleOf (withShifter (disabledOf t) emptyShifter)) (disabledOf t)) breakEnded
+
+pub no-disableDrops : Sends disableDrops → ⊥
+unfolding disableDrops after pulsesIn pulsedOf begunOf pick frame levels spread beforeStop
+no-disableDrops h = true≢false (h .level (ready 0) once (Disable ∷ []) (startable 0) refl (omega arith))
+
+-- ---- TxD raised by a stop break in a frame ----
+
+unfoldable pub stopRaises : Step
+stopRaises = taking pulsedOf writtenOf disabledOf (λ t. withPhase (breakEnded t) (breakEnded t .phase) true)
+
+pub no-stopRaises : Sends stopRaises → ⊥
+unfolding stopRaises after pulsesIn pick frame levels spread beforeStop
+no-stopRaises h = true≢false (h .level (ready 0) once (StopBreak ∷ []) (startable 0) refl (omega arith))
+
+-- ---- a transmitter that does nothing ----
+
+abbrev idles : Step
+idles t x = t
+
+pub no-idles : Sends idles → ⊥
+unfolding after pulsesIn pick frame levels spread beforeStop
+no-idles h = true≢false (h .level (ready 0) once [] (startable 0) refl (omega arith))
+
+-- ---- a break before a character that can start ----
+
+-- "A break begins on a pulse, when idle and no character can start"
+unfoldable pub breaksFirst : Step
+breaksFirst = pulsing (λ t s. pick (free t && t .asked) (breakBegun t) (pulsedOf t s))
+
+pub no-breaksFirst : Sends breaksFirst → ⊥
+unfolding breaksFirst after pulsesIn pulsedOf pick frame levels spread beforeStop bitsOf formatOf
+no-breaksFirst h =
+    let z : false ≡ true =
+    h .level (withAsked (ready 1) true) once (pulses 1) (record { idle = refl; enabled = refl; full = refl; clear = refl }) refl (omega arith) in
+    true≢false (sym z)
+
+-- ---- a shifter that empties with the frame's last pulse ----
+
+unfoldable pub emptiesEarly : Step
+emptiesEarly =
+    pulsing
+    (λ t s.
+    let n : Transmitter = pulsedOf t s in
+    pick (eqb (n .phase) 1 && leb (n .shifter .length .0) (n .shifter .sent .0)) (withPhase n 0 (n .txd)) n)
+
+pub no-emptiesEarly : Sends emptiesEarly → ⊥
+unfolding emptiesEarly after pulsesIn pulsedOf sentOnOf begunOf takenOf pick frame levels spread beforeStop bitsOf parityBits formatOf frameLengthOf bitsBeforeStopOf stopBitsOf
+no-emptiesEarly h = true≢false (h .holds (ready 0) once (pulses 6) (startable 0) refl (omega arith))
+
+-- ---- one character, and then no more ----
+
+-- never a start from a frame that is just over
+unfoldable pub pauses : Step
+pauses = pulsing (λ t s. pick (eqb (t .phase) 1 && leb (t .shifter .length .0) (t .shifter .sent .0)) (idleOf t) (pulsedOf t s))
+
+pub no-pauses : GoesBackToBack pauses → ⊥
+unfolding pauses line pulsedOf sentOnOf begunOf takenOf writtenOf pick frame levels spread beforeStop bitsOf parityBits formatOf frameLengthOf bitsBeforeStopOf stopBitsOf
+no-pauses h = true≢false (ap (λ (l : List Bool). getD l 7 true) (h enabled once 0 ((0, 0) ∷ []) refl refl refl refl))
+
+-- a write while the shifter holds a character is lost
+unfoldable pub losesWrites : Step
+losesWrites = taking pulsedOf (λ t byte. pick (eqb (t .phase) 1) t (writtenOf t byte)) disabledOf breakEnded
+
+pub no-losesWrites : GoesBackToBack losesWrites → ⊥
+unfolding losesWrites line pulsedOf sentOnOf begunOf takenOf writtenOf pick frame levels spread beforeStop bitsOf parityBits formatOf frameLengthOf bitsBeforeStopOf stopBitsOf
+no-losesWrites h = true≢false (ap (λ (l : List Bool). getD l 7 true) (h enabled once 0 ((0, 0) ∷ []) refl refl refl refl))
+
+-- ---- breaks ----
+
+-- a break is asked, and no character can start
+abbrev asking : Transmitter
+asking = withAsked enabled true
+
+-- idle at once
+unfoldable pub endsAtOnce : Step
+endsAtOnce = taking pulsedOf writtenOf disabledOf (λ t. pick (eqb (t .phase) 2) (idleOf t) (breakEnded t))
+
+-- a character is written in the break
+pub no-endsAtOnce : Breaks endsAtOnce → ⊥
+unfolding endsAtOnce after pulsesIn pulsedOf begunOf writtenOf pick
+no-endsAtOnce h = true≢false (sym (h .high asking once (Write 0 ∷ []) StopBreak false (pulses 1) refl refl refl refl stops refl (omega arith)))
+
+-- fifteen pulses of high
+unfoldable pub endsEarly : Step
+endsEarly = taking pulsedOf writtenOf disabledOf (λ t. pick (eqb (t .phase) 2) (withLeft (highAfter t) (record { 0 = 14 })) (breakEnded t))
+
+pub no-endsEarly : Breaks endsEarly → ⊥
+unfolding endsEarly after pulsesIn pulsedOf begunOf heldHigh writtenOf pick
+no-endsEarly h =
+    let u : Standing = record { mr1 = 16; mr2 = 7; sixteen = true; cts = false } in
+    true≢false (sym (h .high asking u (Write 0 ∷ []) StopBreak true (replicate 16 (Pulse u)) refl refl refl refl stops refl (omega arith)))
+
+-- ended by a write
+unfoldable pub writeEnds : Step
+writeEnds = taking pulsedOf (λ t byte. pick (eqb (t .phase) 2) (highAfter (writtenOf t byte)) (writtenOf t byte)) disabledOf breakEnded
+
+pub no-writeEnds : Breaks writeEnds → ⊥
+unfolding writeEnds after pulsedOf begunOf pick
+no-writeEnds h = true≢false (h .low asking once (Write 0 ∷ []) refl refl refl refl)
+
+-- ended by a pulse on which a character could start
+unfoldable pub characterEnds : Step
+characterEnds = pulsing (λ t s. pick (eqb (t .phase) 2 && canStart t s) (highAfter t) (pulsedOf t s))
+
+pub no-characterEnds : Breaks characterEnds → ⊥
+unfolding characterEnds after pulsedOf begunOf writtenOf pick
+no-characterEnds h = true≢false (h .low asking once (Write 0 ∷ pulses 1) refl refl refl refl)
+
+-- ---- a count that runs on ----
+
+-- while no character is sent the pulses are still counted
+unfoldable pub countsOn : Step
+countsOn =
+    pulsing
+    (λ t s.
+    let n : Transmitter = pulsedOf t s in
+    pick (eqb (n .phase) 1) n (withShifter n (oneMore (n .shifter))))
+
+pub no-countsOn : KeepsRanges countsOn → ⊥
+unfolding countsOn pulsedOf begunOf pick
+no-countsOn h =
+    let long : Shifter = record { frame = record { 0 = 0 }; sixteen = true; length = record { 0 = 192 }; sent = record { 0 = 192 } } in
+    true≢false (sym (h (withShifter freshTransmitter long) (Pulse once) refl))
+
+-- ---- a start that CTS forbids ----
+
+unfoldable pub ignoresCts : Step
+ignoresCts = pulsing (λ t s. pulsedOf t (record { mr1 = s .mr1; mr2 = s .mr2; sixteen = s .sixteen; cts = false }))
+
+-- CTS is chosen, and high
+abbrev stopped : Standing
+stopped = record { mr1 = 16; mr2 = 23; sixteen = false; cts = true }
+
+pub no-ignoresCts : Sends ignoresCts → ⊥
+unfolding ignoresCts pulsedOf begunOf takenOf pick
+no-ignoresCts h =
+    let z : false ≡ true = h .rests (ready 0) stopped refl refl refl .high in
+    true≢false (sym z)
+
+-- ---- a write while disabled, and a disable that forgets ----
+
+unfoldable pub writesAlways : Step
+writesAlways = taking pulsedOf (λ t byte. withHolding t true byte) disabledOf breakEnded
+
+pub no-writesAlways : Obeys writesAlways → ⊥
+unfolding writesAlways
+no-writesAlways h = true≢false (ap (λ (t : Transmitter). t .full) (h .ignores freshTransmitter 0 refl))
+
+unfoldable pub disableForgets : Step
+disableForgets = taking pulsedOf writtenOf (λ t. withHolding (disabledOf t) false 0) breakEnded
+
+pub no-disableForgets : Obeys disableForgets → ⊥
+unfolding disableForgets breakEnded pick
+no-disableForgets h = true≢false (sym (ap (λ (t : Transmitter). t .full) (h .disables (ready 0))))

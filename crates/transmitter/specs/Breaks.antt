@@ -1,0 +1,66 @@
+-- What is owed of a break, said of any way `step` to take an input: "A break begins on a pulse, when idle and no character can start .. stop,
+-- disable or reset ends it, nothing else; .. else TxD is high at once, and for one bit (16 pulses, or 1) before a start or a new break." Assumes
+-- nothing.
+use Prim.Native.Nat.{suc, _<_}
+use mathlib.Core.Path.{_≡_}
+use mathlib.Core.Bool.{Bool, true, false, _&&_}
+use mathlib.Core.List.{List, [], _∷_, _++_}
+use Rattle.frame.specs.Pick.{pick}
+use Rattle.transmitter.specs.declared.sending.Standing.{Standing}
+use Rattle.transmitter.specs.declared.state.Transmitter.{Transmitter}
+use Rattle.transmitter.specs.declared.transmitter.Input.{Input}
+use Rattle.transmitter.specs.declared.transmitter.Input.the-variants.{Nothing, Pulse, Write, Enable, Disable, StartBreak, StopBreak, Reset, ChipReset}
+use Rattle.transmitter.specs.Sending.{canStart}
+use Rattle.transmitter.specs.Frames.{Step, after, pulsesIn, free}
+
+-- any input but a stop break, a disable or a reset: "stop, disable or reset ends it, nothing else"
+abbrev pub leavesBreak : Input → Bool
+leavesBreak Nothing = true
+leavesBreak (Pulse s) = true
+leavesBreak (Write byte) = true
+leavesBreak Enable = true
+leavesBreak Disable = false
+leavesBreak StartBreak = true
+leavesBreak StopBreak = false
+leavesBreak Reset = false
+leavesBreak ChipReset = false
+
+abbrev pub unended : List Input → Bool
+unended [] = true
+unended (x ∷ xs) = leavesBreak x && unended xs
+
+-- pulses of this clock, and anything else but a chip reset
+abbrev pub clockedAt : Bool → Input → Bool
+clockedAt sixteen Nothing = true
+clockedAt true (Pulse s) = s .sixteen
+clockedAt false (Pulse s) = pick (s .sixteen) false true
+clockedAt sixteen (Write byte) = true
+clockedAt sixteen Enable = true
+clockedAt sixteen Disable = true
+clockedAt sixteen StartBreak = true
+clockedAt sixteen StopBreak = true
+clockedAt sixteen Reset = true
+clockedAt sixteen ChipReset = false
+
+abbrev pub allAt : Bool → List Input → Bool
+allAt sixteen [] = true
+allAt sixteen (x ∷ xs) = clockedAt sixteen x && allAt sixteen xs
+
+-- the inputs that end a break and are no chip reset
+pub data Ends : Input → Type 0 where
+  stops : Ends StopBreak
+  disables : Ends Disable
+  resets : Ends Reset
+
+pub record Breaks (step : Step) : Type 0 where
+  -- "A break begins on a pulse, when idle and no character can start", and TxD is low until a stop, a disable or a reset
+  pub low : (t : Transmitter) (s : Standing) (xs : List Input) → free t ≡ true → canStart t s ≡ false → t .asked ≡ true → unended xs ≡ true
+      → after step t (Pulse s ∷ xs) .txd ≡ false
+  -- "else TxD is high at once, and for one bit (16 pulses, or 1) before a start or a new break": whatever comes meanwhile
+  pub high : (t : Transmitter) (s : Standing) (xs : List Input) (x : Input) (sixteen : Bool) (ys : List Input)
+      → free t ≡ true → canStart t s ≡ false → t .asked ≡ true → unended xs ≡ true → Ends x → allAt sixteen ys ≡ true
+      → pulsesIn ys < suc (pick sixteen 16 1) → after step t (Pulse s ∷ xs ++ x ∷ ys) .txd ≡ true
+  -- and then a character may start, or a new break begin
+  pub done : (t : Transmitter) (s : Standing) (xs : List Input) (x : Input) (sixteen : Bool) (ys : List Input)
+      → free t ≡ true → canStart t s ≡ false → t .asked ≡ true → unended xs ≡ true → Ends x → allAt sixteen ys ≡ true
+      → pulsesIn ys ≡ pick sixteen 16 1 → free (after step t (Pulse s ∷ xs ++ x ∷ ys)) ≡ true

@@ -1,0 +1,35 @@
+-- What each input but a pulse does, and that it does no more, said of any way `step` to take one. Assumes nothing.
+use Prim.Native.Nat.{ℕ}
+use mathlib.Core.Path.{_≡_}
+use mathlib.Core.Bool.{true, false}
+use lib.Dec.{eqb}
+use Rattle.transmitter.specs.declared.state.Transmitter.{Transmitter}
+use Rattle.transmitter.specs.declared.transmitter.Input.the-variants.{Nothing, Write, Enable, Disable, StartBreak, StopBreak, Reset, ChipReset}
+use Rattle.transmitter.specs.State.{freshTransmitter, withEnabled, withHolding, withAsked}
+use Rattle.transmitter.specs.Status.{shifterEmpty}
+use Rattle.transmitter.specs.Frames.{Step}
+
+-- "3 reset transmitter (disabled, all dropped, TxD high)"
+pub record AllDropped (t : Transmitter) : Type 0 where
+  pub disabled : t .enabled ≡ false
+  pub holding : t .full ≡ false
+  pub shifter : shifterEmpty t ≡ true
+  pub asked : t .asked ≡ false
+  pub high : t .txd ≡ true
+
+pub record Obeys (step : Step) : Type 0 where
+  -- "A write while disabled is ignored; a second write replaces the first."
+  pub ignores : (t : Transmitter) (byte : ℕ) → t .enabled ≡ false → step t (Write byte) ≡ t
+  pub writes : (t : Transmitter) (byte : ℕ) → t .enabled ≡ true → step t (Write byte) ≡ withHolding t true byte
+  pub enables : (t : Transmitter) → step t Enable ≡ withEnabled t true
+  -- "Disable lets the shifter finish and keeps the holding place.": beside the enable it does what a stop break does
+  pub disables : (t : Transmitter) → step t Disable ≡ withEnabled (step t StopBreak) false
+  -- "start break while disabled is ignored", and so it is while one is being sent
+  pub unasked : (t : Transmitter) → t .enabled ≡ false → step t StartBreak ≡ t
+  pub asks : (t : Transmitter) → t .enabled ≡ true → eqb (t .phase) 2 ≡ false → step t StartBreak ≡ withAsked t true
+  pub already : (t : Transmitter) → eqb (t .phase) 2 ≡ true → step t StartBreak ≡ t
+  -- "one not yet begun is just dropped"
+  pub drops : (t : Transmitter) → eqb (t .phase) 2 ≡ false → step t StopBreak ≡ withAsked t false
+  pub resets : (t : Transmitter) → AllDropped (step t Reset)
+  pub resetsChip : (t : Transmitter) → step t ChipReset ≡ freshTransmitter
+  pub nothing : (t : Transmitter) → step t Nothing ≡ t
