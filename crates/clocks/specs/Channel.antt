@@ -43,7 +43,7 @@ transmitterBit phase code pulse =
     (pick (isSixteen code) (sixteenthOf phase) (record { phase = phase; pulse = true }))
     (record { phase = phase; pulse = false })
 
--- "CSR bits 7-4 receiver, 3-0 transmitter."; "receiver on a rising edge .., transmitter on a falling edge"
+-- "CSR bits 7-4 receiver, 3-0 transmitter."; "receiver on a rising edge .. transmitter on a falling edge"
 unfoldable pub clockedOf : Phases → Bool → ℕ → Beat → Clocked
 clockedOf p second csr b =
     let receiver : Divided = sideOf (p .receiver) second (csr / 16) b (b .rising) in

@@ -59,7 +59,7 @@ abbrev pub pulsed : Side → Clocked → Bool
 pulsed receives c = c .receiver
 pulsed transmits c = c .transmitter
 
--- "receiver on a rising edge .., transmitter on a falling edge"
+-- "receiver on a rising edge .. transmitter on a falling edge"
 abbrev pub edgeOf : Side → Beat → Bool
 edgeOf receives b = b .rising
 edgeOf transmits b = b .falling

@@ -1,4 +1,5 @@
 // The receiver that is driven, the numbers that choose, and the sums over what it shows.
+use draws::weighed;
 use receiver::Feed;
 use receiver::Receiver;
 use receiver::feed_receiver;
@@ -20,25 +21,18 @@ pub struct Driver {
 // The next number of the sequence.
 pub fn next(driver: Driver) -> Driver {
     let mut d = driver;
-    d.x = (driver.x % 4294967296 * 1664525 + 1013904223) % 4294967296;
+    d.x = draws::next_number(driver.x);
     d
 }
 
 pub fn drawn(driver: Driver) -> u64 {
-    driver.x / 65536
+    draws::drawn(driver.x)
 }
 
 pub fn add(driver: Driver, number: u64) -> Driver {
     let mut d = driver;
-    d.sum = (driver.sum % 4294967296 * 31 + number % 4294967296) % 4294967296;
+    d.sum = draws::sum_with(driver.sum, number);
     d
-}
-
-pub fn weighed(set: bool, weight: u64) -> u64 {
-    if set {
-        return weight;
-    }
-    0
 }
 
 pub fn plus(a: u64, b: u64) -> u64 {

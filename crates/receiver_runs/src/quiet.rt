@@ -5,7 +5,7 @@ use crate::driver::drawn;
 use crate::driver::next;
 use crate::driver::observe;
 use crate::driver::plus;
-use crate::driver::weighed;
+use draws::weighed;
 use receiver::Effect;
 use receiver::Enabling;
 use receiver::Feed;
@@ -63,18 +63,9 @@ pub fn any_command(driver: Driver) -> Driver {
     command(b, effect, drawn(b) % 4)
 }
 
-// A value for MR1: its bits 4-3 = 11 are not modelled.
-pub fn any_mr1(number: u64) -> u8 {
-    let m = number % 32;
-    if m / 8 == 3 {
-        return (m % 8 + 16) as u8;
-    }
-    m as u8
-}
-
 pub fn change_setting(driver: Driver) -> Driver {
     let mut a = next(driver);
-    a.mr1 = any_mr1(drawn(a));
+    a.mr1 = draws::mr1_from(drawn(a));
     let mut b = next(a);
     b.sixteen = drawn(b) % 4 != 0;
     b

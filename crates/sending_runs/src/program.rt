@@ -76,19 +76,10 @@ pub fn start_or_stop(driver: Driver, starts: bool) -> Driver {
     quiet(d)
 }
 
-// A value for MR1: its bits 4-3 = 11 are not modelled.
-fn any_mr1(number: u64) -> u8 {
-    let m = number % 32;
-    if m / 8 == 3 {
-        return (m % 8 + 16) as u8;
-    }
-    m as u8
-}
-
 pub fn write_modes(driver: Driver) -> Driver {
     let a = next(driver);
     let mut b = next(a);
-    b.mr1 = any_mr1(drawn(a));
+    b.mr1 = draws::mr1_from(drawn(a));
     b.mr2 = (drawn(b) % 32) as u8;
     quiet(b)
 }

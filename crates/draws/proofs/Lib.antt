@@ -1,0 +1,1 @@
+-- No laws stand here: the programs above only run.
