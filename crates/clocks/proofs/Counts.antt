@@ -12,8 +12,8 @@ use Rattle.frame.specs.Pick.{pick}
 use Rattle.frame.proofs.Laws.Pick.{pick-all, pick-yes, pick-no}
 use Rattle.clocks.specs.declared.timer.Counted.{Counted}
 use Rattle.clocks.specs.declared.timer.Timer.{Timer}
-use Rattle.clocks.specs.Timer.{withCount, withReady, isTimer, countedDown, counterPulsed, timerPulsed, pulsedBy, startedOf, stoppedOf}
-use Rattle.clocks.specs.Counts.{afterPulses, pulsesOf, Counts, Toggles}
+use Rattle.clocks.specs.Timer.{withCount, withReady, isTimer, countedDown, counterPulsed, timerPulsed, pulsedBy, startedOf, stoppedOf, modeChanged}
+use Rattle.clocks.specs.Counts.{afterPulses, pulsesOf, Counts, Gone, Toggles, Obeys}
 use Rattle.clocks.proofs.Laws.Runs.{Turn, turn, first-whole, both-runs, alternates}
 use Rattle.clocks.proofs.Laws.Runs.Turn.{goes, ends}
 
@@ -53,7 +53,8 @@ first-zero preload n m s = rw (gone-zero preload n (suc m) s (omega arith)) (go 
     go (no h) (no k) = rw (lt-leb n m (omega arith), lt-leb n (suc m) (omega arith))
 
 counter-pulse : (t : Timer) (mode : ℕ) → isTimer mode ≡ false → t .running ≡ true
-    → pulsedBy t mode true .timer ≡ withReady (withCount t (countedDown (t .count)) (t .output)) (t .ready || eqb (countedDown (t .count)) 0)
+    → pulsedBy t mode true
+    ≡ record { timer = withReady (withCount t (countedDown (t .count)) (t .output)) (t .ready || eqb (countedDown (t .count)) 0); toggled = false }
 unfolding pulsedBy counterPulsed pick
 counter-pulse t mode h r = rw (h, r)
 
@@ -76,33 +77,15 @@ down-ready t mode preload m h d =
     let e : countedDown (t .count) ≡ gone preload (suc m) = omega arith in
     rw (counter-pulse t mode h (d .running), e)
 
--- what a start and a stop leave of the bit
+-- a start leaves the bit
 started-ready : (t : Timer) (mode : ℕ) → startedOf t mode .ready ≡ t .ready
 unfolding startedOf
 started-ready t mode = pick-all (λ (x : Timer). x .ready ≡ t .ready) (isTimer mode) _ _ refl refl
 
-stopped-ready : (t : Timer) (mode : ℕ) → stoppedOf t mode .ready ≡ false
-unfolding stoppedOf
-stopped-ready t mode = pick-all (λ (x : Timer). x .ready ≡ false) (isTimer mode) _ _ refl refl
-
 -- a halted counter takes no pulse
-stopped-pulse : (t : Timer) (mode : ℕ) → isTimer mode ≡ false → pulsedBy (stoppedOf t mode) mode true .timer ≡ stoppedOf t mode
-unfolding pulsedBy counterPulsed stoppedOf pick
-stopped-pulse t mode h = rw h
-
-stopped-stays : (t : Timer) (mode m : ℕ) → isTimer mode ≡ false → afterPulses pulsedBy mode (stoppedOf t mode) m ≡ stoppedOf t mode
-unfolding afterPulses
-stopped-stays t mode zero h = refl
-stopped-stays t mode (suc m) h = ap (λ (x : Timer). pulsedBy x mode true .timer) (stopped-stays t mode m h) ∙ stopped-pulse t mode h
-
-stopped-count : (t : Timer) (mode : ℕ) → stoppedOf t mode .count ≡ t .count
-unfolding stoppedOf
-stopped-count t mode = pick-all (λ (x : Timer). x .count ≡ t .count) (isTimer mode) _ _ refl refl
-
-no-toggle : (t : Timer) (mode : ℕ) (pulse : Bool) → isTimer mode ≡ false → pulsedBy t mode pulse .toggled ≡ false
-unfolding pulsedBy pick
-no-toggle t mode true h = rw h
-no-toggle t mode false h = refl
+halted : (t : Timer) (mode : ℕ) → isTimer mode ≡ false → t .running ≡ false → pulsedBy t mode true ≡ record { timer = t; toggled = false }
+unfolding pulsedBy counterPulsed pick
+halted t mode h r = rw (h, r)
 
 counter-after : (t : Timer) (mode m : ℕ) → isTimer mode ≡ false → t .preload < 65536
     → Down (t .preload) m (afterPulses pulsedBy mode (startedOf t mode) m)
@@ -123,16 +106,16 @@ counter-ready t mode (suc m) h l =
     ∙ or-assoc (t .ready) (leb (pulsesOf (t .preload)) m) (eqb (gone (t .preload) (suc m)) 0)
     ∙ ap (_||_ (t .ready)) (first-zero (t .preload) (pulsesOf (t .preload)) m (stands (t .preload) l))
 
-pub counts : Counts pulsedBy startedOf stoppedOf
+pub counts : Counts pulsedBy startedOf
 counts =
     record {
+      takes = counter-pulse;
+      halted = halted;
       count = λ t mode m h l. counter-after t mode m h l .count;
       terminal =
           λ t mode m h l z.
           rw (counter-after t mode m h l .count) (gone-zero (t .preload) (pulsesOf (t .preload)) m (stands (t .preload) l) z);
       sets = counter-ready;
-      halts = λ t mode m h. rw (stopped-stays t mode m h) (stopped-count t mode, stopped-ready t mode);
-      silent = no-toggle;
     }
 
 -- ---- a timer ----
@@ -178,13 +161,6 @@ turned-first t mode h l =
     let s = stands (t .preload) l .loads in
     rw h (record { loaded = refl; count = rw (zero-mod, sub-zero) (sym s); output = rw zero-div })
 
-turned-stopped : (t : Timer) (mode preload n m : ℕ) → Turned preload n m t → Turned preload n m (stoppedOf t mode)
-unfolding stoppedOf
-turned-stopped t mode preload n m d =
-    pick-all (Turned preload n m) (isTimer mode) _ _
-    (record { loaded = d .loaded; count = d .count; output = d .output })
-    (record { loaded = d .loaded; count = d .count; output = d .output })
-
 turned-after : (t : Timer) (mode preload n k m : ℕ) → isTimer mode ≡ true → Stands preload n → Turned preload n k t
     → Turned preload n (k + m) (afterPulses pulsedBy mode t m)
 unfolding afterPulses
@@ -222,15 +198,33 @@ timer-ready t mode (suc m) h l =
     ∙ or-assoc (t .ready) (leb (2 * pulsesOf (t .preload)) m) (eqb (suc m % (2 * pulsesOf (t .preload))) 0)
     ∙ ap (_||_ (t .ready)) (sym (first-whole (2 * pulsesOf (t .preload)) m (omega arith)))
 
-pub toggles : Toggles pulsedBy startedOf stoppedOf
+-- the statement's record and the one of the proof
+turned : (k : ℕ) (t : Timer) → Gone k t → Turned (t .preload) (pulsesOf (t .preload)) k t
+turned k t g = record { loaded = refl; count = g .count; output = g .output }
+
+gone-by : (preload k : ℕ) (t : Timer) → Turned preload (pulsesOf preload) k t → Gone k t
+gone-by preload k t d = record { count = rw (d .loaded) (d .count); output = rw (d .loaded) (d .output) }
+
+pub toggles : Toggles pulsedBy startedOf
 toggles =
     record {
+      goes = λ t mode k m h l g. gone-by (t .preload) (k + m) _ (turned-after t mode (t .preload) _ k m h (stands (t .preload) l) (turned k t g));
+      high = λ t mode k h l g. turned-more t mode (t .preload) _ k h (stands (t .preload) l) (turned k t g) .1;
+      sets = pulse-ready;
       output = λ t mode m h l. timer-after t mode m h l .output;
-      high = timer-high;
-      sets = timer-ready;
-      goesOn =
-          λ t mode k m h l.
-          turned-after _ mode (t .preload) (pulsesOf (t .preload)) k m h (stands (t .preload) l)
-          (turned-stopped _ mode (t .preload) (pulsesOf (t .preload)) k (timer-after t mode k h l)) .output;
-      clears = stopped-ready;
+      ready = timer-ready;
+    }
+
+-- ---- a start, a stop, another mode ----
+
+pub obeys : Obeys startedOf stoppedOf modeChanged
+unfolding startedOf stoppedOf modeChanged pick
+obeys =
+    record {
+      startsCounter = λ t mode h. rw h;
+      stopsCounter = λ t mode h. rw h;
+      startsTimer = λ t mode h. rw h;
+      stopsTimer = λ t mode h. rw h;
+      changes = λ t before after h. rw h;
+      unchanged = λ t before after h. rw h;
     }

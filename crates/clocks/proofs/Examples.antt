@@ -5,15 +5,15 @@ use mathlib.Core.Path.{_≡_, refl}
 use mathlib.Core.Bool.{Bool, true, false}
 use lib.ListN.{replicate}
 use Rattle.frame.specs.Pick.{pick}
-use Rattle.clocks.specs.declared.channel.Beat.{Beat}
+use Rattle.clocks.specs.declared.channel.ClockEvent.{ClockEvent}
 use Rattle.clocks.specs.declared.channel.Clocked.{Clocked}
 use Rattle.clocks.specs.declared.channel.Phases.{Phases}
 use Rattle.clocks.specs.declared.timer.Timer.{Timer}
 use Rattle.clocks.specs.Divider.{dividedOf, sixteenthOf}
 use Rattle.clocks.specs.Rates.{periodOf}
-use Rattle.clocks.specs.Channel.{restarted, restartedOnChange, tickedOf, sideOf, transmitterBit, clockedOf}
+use Rattle.clocks.specs.Channel.{restarted, restartedOnChange, tickedOf, sideOf, transmitter1x, clockedOf}
 use Rattle.clocks.specs.Timer.{counterPulsed, timerPulsed, pulsedBy, tickedBy, edgedBy, transmittedBy, startedOf, modeChanged}
-use Rattle.clocks.specs.Pulses.{afterBeats, next}
+use Rattle.clocks.specs.Pulses.{afterEvents, next}
 
 -- ---- the counter/timer ----
 
@@ -70,13 +70,13 @@ mode-alone t = refl
 
 -- ---- a channel's clocks ----
 
-abbrev tick : Beat
+abbrev tick : ClockEvent
 tick = record { tick = true; toggled = false; rising = false; falling = false }
 
-abbrev toggle : Beat
+abbrev toggle : ClockEvent
 toggle = record { tick = false; toggled = true; rising = false; falling = false }
 
-abbrev fall : Beat
+abbrev fall : ClockEvent
 fall = record { tick = false; toggled = false; rising = false; falling = true }
 
 -- what the tick after n ticks since a restart brings, with code 11 on both sides
@@ -87,7 +87,7 @@ eleventh second n = next clockedOf second 187 (replicate n tick) tick
 code-11 : (second : Bool)
     → (eleventh second 22 .receiver ≡ false) × (eleventh second 23 .receiver ≡ true)
     × (eleventh second 22 .transmitter ≡ false) × (eleventh second 23 .transmitter ≡ true)
-unfolding afterBeats clockedOf sideOf tickedOf transmitterBit dividedOf sixteenthOf periodOf pick
+unfolding afterEvents clockedOf sideOf tickedOf transmitter1x dividedOf sixteenthOf periodOf pick
 code-11 true = (refl, refl, refl, refl)
 code-11 false = (refl, refl, refl, refl)
 
@@ -101,7 +101,7 @@ code-13 p second = (refl, refl, refl, refl)
 -- code 15 on both sides: a falling edge is the transmitter's pulse and its whole bit, and not the receiver's
 code-15 : (p : Phases) (second : Bool)
     → (clockedOf p second 255 fall .transmitter ≡ true) × (clockedOf p second 255 fall .one ≡ true) × (clockedOf p second 255 fall .receiver ≡ false)
-unfolding clockedOf sideOf transmitterBit pick
+unfolding clockedOf sideOf transmitter1x pick
 code-15 p second = (refl, refl, refl)
 
 -- ACR bit 7 restarts a channel's phases where it changes, and leaves them where it does not

@@ -14,15 +14,15 @@ use Rattle.frame.specs.declared.counts.Ticks.{Ticks}
 use Rattle.frame.specs.Digits.{bit}
 use Rattle.frame.specs.Pick.{pick}
 use Rattle.frame.proofs.Laws.Pick.{pick-yes}
-use Rattle.clocks.specs.declared.channel.Beat.{Beat}
+use Rattle.clocks.specs.declared.channel.ClockEvent.{ClockEvent}
 use Rattle.clocks.specs.declared.channel.Clocked.{Clocked}
 use Rattle.clocks.specs.declared.channel.Phases.{Phases}
 use Rattle.clocks.specs.declared.divider.Divided.{Divided}
 use Rattle.clocks.specs.declared.divider.Sixteenth.{Sixteenth}
 use Rattle.clocks.specs.Divider.{dividedOf}
 use Rattle.clocks.specs.Rates.{periodOf}
-use Rattle.clocks.specs.Channel.{restarted, isSixteen, tickedOf, sideOf, transmitterBit, clockedOf}
-use Rattle.clocks.specs.Pulses.{phaseAfter, pulseAt, pulsesBy, Divides, Side, codeOf, pulsed, edgeOf, afterBeats, ticksIn, sentIn, next, Clocks}
+use Rattle.clocks.specs.Channel.{restarted, isSixteen, tickedOf, sideOf, transmitter1x, clockedOf}
+use Rattle.clocks.specs.Pulses.{phaseAfter, pulseAt, pulsesBy, Divides, Side, codeOf, pulsed, edgeOf, afterEvents, ticksIn, sentIn, next, Clocks}
 use Rattle.clocks.specs.Pulses.Side.{receives, transmits}
 use Rattle.clocks.proofs.Laws.Divider.{ticksOf, pulsesOf, divided-at, sixteenth-at}
 use Rattle.clocks.proofs.Laws.Rates.{period-between}
@@ -69,17 +69,17 @@ abbrev sideIn : Side → Clocked → Divided
 sideIn side c = record { phase = phaseOf side (c .phases); pulse = pulsed side c }
 
 -- a channel's clocks are its two sides
-clocked-side : (side : Side) (p : Phases) (second : Bool) (csr : ℕ) (b : Beat)
+clocked-side : (side : Side) (p : Phases) (second : Bool) (csr : ℕ) (b : ClockEvent)
     → sideIn side (clockedOf p second csr b) ≡ sideOf (phaseOf side p) second (codeOf side csr) b (edgeOf side b)
 unfolding clockedOf
 clocked-side receives p second csr b = refl
 clocked-side transmits p second csr b = refl
 
-timed : (phase : Ticks) (second : Bool) (code : ℕ) (b : Beat) (edge : Bool) → code ≡ 13 → sideOf phase second code b edge .pulse ≡ b .toggled
+timed : (phase : Ticks) (second : Bool) (code : ℕ) (b : ClockEvent) (edge : Bool) → code ≡ 13 → sideOf phase second code b edge .pulse ≡ b .toggled
 unfolding sideOf pick
 timed phase second code b edge e = rw e
 
-pinned : (phase : Ticks) (second : Bool) (code : ℕ) (b : Beat) (edge : Bool) → 13 < code → sideOf phase second code b edge .pulse ≡ edge
+pinned : (phase : Ticks) (second : Bool) (code : ℕ) (b : ClockEvent) (edge : Bool) → 13 < code → sideOf phase second code b edge .pulse ≡ edge
 unfolding sideOf pick
 pinned phase second code b edge h = rw (le-ltb code 13 (omega arith), ne-eqb code 13 (omega arith))
 
@@ -90,7 +90,7 @@ unfolding tickedOf pick
 ticked-at n k true z = rw (one-add k) (divided-at n k z)
 ticked-at n k false z = rw (zero-add k)
 
-side-at : (phase : Ticks) (second : Bool) (code k : ℕ) (b : Beat) (edge : Bool) → code < 13 → phase ≡ ticksOf (k % periodOf second code .0)
+side-at : (phase : Ticks) (second : Bool) (code k : ℕ) (b : ClockEvent) (edge : Bool) → code < 13 → phase ≡ ticksOf (k % periodOf second code .0)
     → sideOf phase second code b edge
     ≡ record { phase = ticksOf ((bit (b .tick) + k) % periodOf second code .0); pulse = b .tick && eqb (suc k % periodOf second code .0) 0 }
 unfolding sideOf
@@ -98,19 +98,19 @@ side-at phase second code k b edge h e =
     let z = period-between second code h .0 in
     pick-yes _ _ _ (lt-ltb code 13 h) ∙ rw e (ticked-at (periodOf second code) k (b .tick) (omega arith))
 
-after-beats : (side : Side) (second : Bool) (csr : ℕ) (bs : List Beat) (p : Phases) (k : ℕ) → codeOf side csr < 13
+after-events : (side : Side) (second : Bool) (csr : ℕ) (bs : List ClockEvent) (p : Phases) (k : ℕ) → codeOf side csr < 13
     → phaseOf side p ≡ ticksOf (k % periodOf second (codeOf side csr) .0)
-    → phaseOf side (afterBeats clockedOf p second csr bs) ≡ ticksOf ((k + ticksIn bs) % periodOf second (codeOf side csr) .0)
-unfolding afterBeats ticksIn
-after-beats side second csr [] p k h e = rw (add-zero k) e
-after-beats side second csr (b ∷ bs) p k h e =
+    → phaseOf side (afterEvents clockedOf p second csr bs) ≡ ticksOf ((k + ticksIn bs) % periodOf second (codeOf side csr) .0)
+unfolding afterEvents ticksIn
+after-events side second csr [] p k h e = rw (add-zero k) e
+after-events side second csr (b ∷ bs) p k h e =
     let moved = clocked-side side p second csr b ∙ side-at (phaseOf side p) second (codeOf side csr) k b (edgeOf side b) h e in
     let sum : k + (bit (b .tick) + ticksIn bs) ≡ bit (b .tick) + k + ticksIn bs = omega arith in
-    rw sum (after-beats side second csr bs (clockedOf p second csr b .phases) (bit (b .tick) + k) h (ap (λ (d : Divided). d .phase) moved))
+    rw sum (after-events side second csr bs (clockedOf p second csr b .phases) (bit (b .tick) + k) h (ap (λ (d : Divided). d .phase) moved))
 
-since-restart : (side : Side) (second : Bool) (csr : ℕ) (bs : List Beat) → codeOf side csr < 13
-    → phaseOf side (afterBeats clockedOf restarted second csr bs) ≡ ticksOf (ticksIn bs % periodOf second (codeOf side csr) .0)
-since-restart side second csr bs h = rw (zero-add (ticksIn bs)) at (after-beats side second csr bs restarted 0 h (rw zero-mod (zero-phase side)))
+since-restart : (side : Side) (second : Bool) (csr : ℕ) (bs : List ClockEvent) → codeOf side csr < 13
+    → phaseOf side (afterEvents clockedOf restarted second csr bs) ≡ ticksOf (ticksIn bs % periodOf second (codeOf side csr) .0)
+since-restart side second csr bs h = rw (zero-add (ticksIn bs)) at (after-events side second csr bs restarted 0 h (rw zero-mod (zero-phase side)))
   where
     zero-phase : (s : Side) → phaseOf s restarted ≡ ticksOf 0
     zero-phase receives = refl
@@ -121,25 +121,25 @@ since-restart side second csr bs h = rw (zero-add (ticksIn bs)) at (after-beats 
 abbrev bitIn : Clocked → Sixteenth
 bitIn c = record { phase = c .phases .sixteenths; pulse = c .one }
 
-clocked-bit : (p : Phases) (second : Bool) (csr : ℕ) (b : Beat)
-    → bitIn (clockedOf p second csr b) ≡ transmitterBit (p .sixteenths) (csr % 16) (clockedOf p second csr b .transmitter)
+clocked-bit : (p : Phases) (second : Bool) (csr : ℕ) (b : ClockEvent)
+    → bitIn (clockedOf p second csr b) ≡ transmitter1x (p .sixteenths) (csr % 16) (clockedOf p second csr b .transmitter)
 unfolding clockedOf
 clocked-bit p second csr b = refl
 
-whole-bit : (phase : Pulses) (code : ℕ) (pulse : Bool) → isSixteen code ≡ false → transmitterBit phase code pulse .pulse ≡ pulse
-unfolding transmitterBit pick
+whole-bit : (phase : Pulses) (code : ℕ) (pulse : Bool) → isSixteen code ≡ false → transmitter1x phase code pulse .pulse ≡ pulse
+unfolding transmitter1x pick
 whole-bit phase code true h = rw h
 whole-bit phase code false h = refl
 
 bit-at : (phase : Pulses) (code k : ℕ) (pulse : Bool) → isSixteen code ≡ true → phase ≡ pulsesOf (k % 16)
-    → transmitterBit phase code pulse ≡ record { phase = pulsesOf ((bit pulse + k) % 16); pulse = pulse && eqb (suc k % 16) 0 }
-unfolding transmitterBit pick
+    → transmitter1x phase code pulse ≡ record { phase = pulsesOf ((bit pulse + k) % 16); pulse = pulse && eqb (suc k % 16) 0 }
+unfolding transmitter1x pick
 bit-at phase code k true h e = rw (h, e, one-add k) (sixteenth-at k)
 bit-at phase code k false h e = rw (e, zero-add k)
 
-after-sent : (second : Bool) (csr : ℕ) (bs : List Beat) (p : Phases) (k : ℕ) → isSixteen (csr % 16) ≡ true → p .sixteenths ≡ pulsesOf (k % 16)
-    → afterBeats clockedOf p second csr bs .sixteenths ≡ pulsesOf ((k + sentIn clockedOf p second csr bs) % 16)
-unfolding afterBeats sentIn
+after-sent : (second : Bool) (csr : ℕ) (bs : List ClockEvent) (p : Phases) (k : ℕ) → isSixteen (csr % 16) ≡ true → p .sixteenths ≡ pulsesOf (k % 16)
+    → afterEvents clockedOf p second csr bs .sixteenths ≡ pulsesOf ((k + sentIn clockedOf p second csr bs) % 16)
+unfolding afterEvents sentIn
 after-sent second csr [] p k h e = rw (add-zero k) e
 after-sent second csr (b ∷ bs) p k h e =
     let sent : Bool = clockedOf p second csr b .transmitter in
@@ -150,12 +150,12 @@ after-sent second csr (b ∷ bs) p k h e =
 
 -- ---- both ----
 
-pulse-in : (side : Side) (p : Phases) (second : Bool) (csr : ℕ) (b : Beat)
+pulse-in : (side : Side) (p : Phases) (second : Bool) (csr : ℕ) (b : ClockEvent)
     → pulsed side (clockedOf p second csr b) ≡ sideOf (phaseOf side p) second (codeOf side csr) b (edgeOf side b) .pulse
 pulse-in side p second csr b = ap (λ (d : Divided). d .pulse) (clocked-side side p second csr b)
 
-one-in : (p : Phases) (second : Bool) (csr : ℕ) (b : Beat)
-    → clockedOf p second csr b .one ≡ transmitterBit (p .sixteenths) (csr % 16) (clockedOf p second csr b .transmitter) .pulse
+one-in : (p : Phases) (second : Bool) (csr : ℕ) (b : ClockEvent)
+    → clockedOf p second csr b .one ≡ transmitter1x (p .sixteenths) (csr % 16) (clockedOf p second csr b .transmitter) .pulse
 one-in p second csr b = ap (λ (d : Sixteenth). d .pulse) (clocked-bit p second csr b)
 
 pub clocks : Clocks clockedOf
@@ -163,7 +163,7 @@ clocks =
     record {
       fixed =
           λ side second csr bs b h.
-          pulse-in side (afterBeats clockedOf restarted second csr bs) second csr b
+          pulse-in side (afterEvents clockedOf restarted second csr bs) second csr b
           ∙ ap (λ (d : Divided). d .pulse) (side-at _ second (codeOf side csr) (ticksIn bs) b (edgeOf side b) h (since-restart side second csr bs h));
       timer = λ side p second csr b e. pulse-in side p second csr b ∙ timed (phaseOf side p) second (codeOf side csr) b (edgeOf side b) e;
       pin = λ side p second csr b h. pulse-in side p second csr b ∙ pinned (phaseOf side p) second (codeOf side csr) b (edgeOf side b) h;
@@ -171,7 +171,7 @@ clocks =
           λ second csr bs b h.
           let sent : ℕ = sentIn clockedOf restarted second csr bs in
           let since = rw (zero-add sent) at (after-sent second csr bs restarted 0 h refl) in
-          one-in (afterBeats clockedOf restarted second csr bs) second csr b
+          one-in (afterEvents clockedOf restarted second csr bs) second csr b
           ∙ ap (λ (d : Sixteenth). d .pulse) (bit-at _ (csr % 16) sent (next clockedOf second csr bs b .transmitter) h since);
       each = λ p second csr b h. one-in p second csr b ∙ whole-bit (p .sixteenths) (csr % 16) (clockedOf p second csr b .transmitter) h;
     }

@@ -61,15 +61,9 @@ change-keeps : (t : Timer) (before after : ℕ) → Kept t (modeChanged t before
 unfolding modeChanged
 change-keeps t before after = pick-all (Kept t) (eqb (modeOf before) (modeOf after)) _ _ (same t) (record { preload = refl; ticks = refl; edges = refl })
 
-pub leaves : Leaves pulsedBy startedOf stoppedOf
+pub leaves : Leaves pulsedBy
 unfolding pulsedBy pick
-leaves =
-    record {
-      still = λ t mode. refl;
-      pulses = λ t mode. pulse-keeps t mode true;
-      starts = start-keeps;
-      stops = stop-keeps;
-    }
+leaves = record { still = λ t mode. refl; pulses = λ t mode. pulse-keeps t mode true }
 
 -- ---- the sources ----
 

@@ -1,5 +1,5 @@
 -- The statements on dividers and channel clocks shut wrong ones out. Each is ours but for one fault, and each is refuted by computing a few
--- events: `Divides` is false of four, `Clocks` of four, `KeepsPhases` of one. Assumes nothing.
+-- events: `Divides` is false of four, `Clocks` of five, `KeepsPhases` of one. Assumes nothing.
 use Prim.Native.Nat.{ℕ, _+_, _-_, _/_, _%_}
 use mathlib.Core.Path.{_≡_, refl, sym}
 use mathlib.Core.Bool.{Bool, true, false, true≢false, _&&_, _||_}
@@ -10,14 +10,14 @@ use lib.ListN.{replicate}
 use Rattle.frame.specs.declared.counts.Pulses.{Pulses}
 use Rattle.frame.specs.declared.counts.Ticks.{Ticks}
 use Rattle.frame.specs.Pick.{pick}
-use Rattle.clocks.specs.declared.channel.Beat.{Beat}
+use Rattle.clocks.specs.declared.channel.ClockEvent.{ClockEvent}
 use Rattle.clocks.specs.declared.channel.Phases.{Phases}
 use Rattle.clocks.specs.declared.divider.Divided.{Divided}
 use Rattle.clocks.specs.declared.divider.Sixteenth.{Sixteenth}
 use Rattle.clocks.specs.Divider.{dividedOf, sixteenthOf}
 use Rattle.clocks.specs.Rates.{periodOf}
-use Rattle.clocks.specs.Channel.{restarted, isSixteen, tickedOf, sideOf, transmitterBit, clockedOf}
-use Rattle.clocks.specs.Pulses.{Divider, phaseAfter, pulsesBy, Divides, Clock, afterBeats, ticksIn, sentIn, Clocks}
+use Rattle.clocks.specs.Channel.{restarted, isSixteen, tickedOf, sideOf, transmitter1x, clockedOf}
+use Rattle.clocks.specs.Pulses.{Divider, phaseAfter, pulsesBy, Divides, Clock, afterEvents, ticksIn, sentIn, Clocks}
 use Rattle.clocks.specs.Pulses.Side.{transmits}
 use Rattle.clocks.specs.Sound.{KeepsPhases}
 
@@ -63,7 +63,7 @@ no-past h = true≢false (sym (h .comes (ticks 1) 1 (omega arith)))
 
 -- a side, and a way to make the 1X clock, that may be other than ours
 abbrev SideRule : Type 0
-SideRule = Ticks → Bool → ℕ → Beat → Bool → Divided
+SideRule = Ticks → Bool → ℕ → ClockEvent → Bool → Divided
 
 abbrev BitRule : Type 0
 BitRule = Pulses → ℕ → Bool → Sixteenth
@@ -81,20 +81,20 @@ clockBy side bitOf p second csr b =
     }
 
 -- with ours it is ours
-ours : (p : Phases) (second : Bool) (csr : ℕ) (b : Beat) → clockBy sideOf transmitterBit p second csr b ≡ clockedOf p second csr b
+ours : (p : Phases) (second : Bool) (csr : ℕ) (b : ClockEvent) → clockBy sideOf transmitter1x p second csr b ≡ clockedOf p second csr b
 unfolding clockBy clockedOf
 ours p second csr b = refl
 
-abbrev tick : Beat
+abbrev tick : ClockEvent
 tick = record { tick = true; toggled = false; rising = false; falling = false }
 
-abbrev toggle : Beat
+abbrev toggle : ClockEvent
 toggle = record { tick = false; toggled = true; rising = false; falling = false }
 
-abbrev rise : Beat
+abbrev rise : ClockEvent
 rise = record { tick = false; toggled = false; rising = true; falling = false }
 
-abbrev fall : Beat
+abbrev fall : ClockEvent
 fall = record { tick = false; toggled = false; rising = false; falling = true }
 
 -- the transmitter takes the rising edge
@@ -109,7 +109,7 @@ no-takesRising h = true≢false (sym (h .pin transmits restarted false 14 fall (
 unfoldable pub dividesThirteen : SideRule
 dividesThirteen phase second code b edge = pick (ltb code 14) (tickedOf phase (periodOf second code) (b .tick)) (sideOf phase second code b edge)
 
-pub no-dividesThirteen : Clocks (clockBy dividesThirteen transmitterBit) → ⊥
+pub no-dividesThirteen : Clocks (clockBy dividesThirteen transmitter1x) → ⊥
 unfolding clockBy dividesThirteen tickedOf pick
 no-dividesThirteen h = true≢false (sym (h .timer transmits restarted false 13 toggle refl))
 
@@ -119,25 +119,33 @@ edgeMoves phase second code b edge =
     pick (ltb code 13) (tickedOf phase (periodOf second code) (b .tick || edge)) (sideOf phase second code b edge)
 
 -- code 12 is 6 ticks: an edge and 5 ticks are a pulse here
-pub no-edgeMoves : Clocks (clockBy edgeMoves transmitterBit) → ⊥
-unfolding clockBy edgeMoves tickedOf dividedOf periodOf afterBeats ticksIn pick
+pub no-edgeMoves : Clocks (clockBy edgeMoves transmitter1x) → ⊥
+unfolding clockBy edgeMoves tickedOf dividedOf periodOf afterEvents ticksIn pick
 no-edgeMoves h = true≢false (h .fixed transmits false 12 (fall ∷ tick ∷ tick ∷ tick ∷ tick ∷ []) tick (omega arith))
 
 -- the 1X clock comes with every 15th pulse
 unfoldable pub everyFifteenth : BitRule
 everyFifteenth phase code pulse =
-    pick (pulse && (isSixteen code && eqb (phase .0) 14)) (record { phase = record { 0 = 0 }; pulse = true }) (transmitterBit phase code pulse)
+    pick (pulse && (isSixteen code && eqb (phase .0) 14)) (record { phase = record { 0 = 0 }; pulse = true }) (transmitter1x phase code pulse)
 
 pub no-everyFifteenth : Clocks (clockBy sideOf everyFifteenth) → ⊥
-unfolding clockBy sideOf everyFifteenth transmitterBit sixteenthOf afterBeats sentIn pick
+unfolding clockBy sideOf everyFifteenth transmitter1x sixteenthOf afterEvents sentIn pick
 no-everyFifteenth h = true≢false (h .sixteenth false 14 (replicate 14 fall) fall refl)
+
+-- at 1X too the 1X clock comes with every 16th pulse
+abbrev sixteenAlways : BitRule
+sixteenAlways phase code pulse = transmitter1x phase 14 pulse
+
+pub no-sixteenAlways : Clocks (clockBy sideOf sixteenAlways) → ⊥
+unfolding clockBy sideOf transmitter1x sixteenthOf pick
+no-sixteenAlways h = true≢false (sym (h .each restarted false 15 fall refl))
 
 -- the divider counts past its period
 unfoldable pub countsPast : SideRule
 countsPast phase second code b edge =
     pick (ltb code 13 && b .tick) (past phase (periodOf second code)) (sideOf phase second code b edge)
 
-pub no-countsPast : KeepsPhases (clockBy countsPast transmitterBit) → ⊥
+pub no-countsPast : KeepsPhases (clockBy countsPast transmitter1x) → ⊥
 unfolding clockBy countsPast pick
 no-countsPast h =
     true≢false (sym (h (record { receiver = ticks 4607; transmitter = ticks 0; sixteenths = record { 0 = 0 } }) false 0 tick refl))

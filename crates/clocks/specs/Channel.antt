@@ -5,7 +5,7 @@ use lib.Dec.{eqb, ltb}
 use Rattle.frame.specs.declared.counts.Pulses.{Pulses}
 use Rattle.frame.specs.declared.counts.Ticks.{Ticks}
 use Rattle.frame.specs.Pick.{pick}
-use Rattle.clocks.specs.declared.channel.Beat.{Beat}
+use Rattle.clocks.specs.declared.channel.ClockEvent.{ClockEvent}
 use Rattle.clocks.specs.declared.channel.Clocked.{Clocked}
 use Rattle.clocks.specs.declared.channel.Phases.{Phases}
 use Rattle.clocks.specs.declared.divider.Divided.{Divided}
@@ -13,7 +13,8 @@ use Rattle.clocks.specs.declared.divider.Sixteenth.{Sixteenth}
 use Rattle.clocks.specs.Divider.{dividedOf, sixteenthOf}
 use Rattle.clocks.specs.Rates.{periodOf}
 
--- "A CSR write restarts that channel's phases, the next pulse coming a full period later"
+-- "A CSR write restarts that channel's phases, the next pulse coming a full period later"; a chip reset too: "phase, flag, mark, last byte
+-- read and output bit 0"
 abbrev pub restarted : Phases
 restarted = record { receiver = record { 0 = 0 }; transmitter = record { 0 = 0 }; sixteenths = record { 0 = 0 } }
 
@@ -30,25 +31,25 @@ unfoldable pub tickedOf : Ticks → Ticks → Bool → Divided
 tickedOf phase period tick = pick tick (dividedOf phase period) (record { phase = phase; pulse = false })
 
 -- One side in an event: its divider for codes 0 to 12; "13: the timer's toggle to high"; "14 (16X), 15 (1X)": its pin's edge.
-unfoldable pub sideOf : Ticks → Bool → ℕ → Beat → Bool → Divided
+unfoldable pub sideOf : Ticks → Bool → ℕ → ClockEvent → Bool → Divided
 sideOf phase second code b edge =
     pick (ltb code 13) (tickedOf phase (periodOf second code) (b .tick))
     (pick (eqb code 13) (record { phase = phase; pulse = b .toggled })
     (record { phase = phase; pulse = edge }))
 
 -- the 1X transmitter clock: "every 16th 16X pulse since that phase restarted, or each 1X pulse"
-unfoldable pub transmitterBit : Pulses → ℕ → Bool → Sixteenth
-transmitterBit phase code pulse =
+unfoldable pub transmitter1x : Pulses → ℕ → Bool → Sixteenth
+transmitter1x phase code pulse =
     pick pulse
     (pick (isSixteen code) (sixteenthOf phase) (record { phase = phase; pulse = true }))
     (record { phase = phase; pulse = false })
 
 -- "CSR bits 7-4 receiver, 3-0 transmitter."; "receiver on a rising edge .. transmitter on a falling edge"
-unfoldable pub clockedOf : Phases → Bool → ℕ → Beat → Clocked
+unfoldable pub clockedOf : Phases → Bool → ℕ → ClockEvent → Clocked
 clockedOf p second csr b =
     let receiver : Divided = sideOf (p .receiver) second (csr / 16) b (b .rising) in
     let transmitter : Divided = sideOf (p .transmitter) second (csr % 16) b (b .falling) in
-    let bit : Sixteenth = transmitterBit (p .sixteenths) (csr % 16) (transmitter .pulse) in
+    let bit : Sixteenth = transmitter1x (p .sixteenths) (csr % 16) (transmitter .pulse) in
     record {
       phases = record { receiver = receiver .phase; transmitter = transmitter .phase; sixteenths = bit .phase };
       receiver = receiver .pulse;

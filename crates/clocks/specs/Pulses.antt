@@ -7,7 +7,7 @@ use mathlib.Core.List.{List, [], _∷_}
 use lib.Dec.{eqb}
 use Rattle.frame.specs.declared.counts.Ticks.{Ticks}
 use Rattle.frame.specs.Digits.{bit}
-use Rattle.clocks.specs.declared.channel.Beat.{Beat}
+use Rattle.clocks.specs.declared.channel.ClockEvent.{ClockEvent}
 use Rattle.clocks.specs.declared.channel.Clocked.{Clocked}
 use Rattle.clocks.specs.declared.channel.Phases.{Phases}
 use Rattle.clocks.specs.declared.divider.Divided.{Divided}
@@ -45,7 +45,7 @@ pub record Divides (d : Divider) : Type 0 where
 
 -- a way to take an event: the phases, ACR bit 7, CSR, and what the event brings
 abbrev pub Clock : Type 0
-Clock = Phases → Bool → ℕ → Beat → Clocked
+Clock = Phases → Bool → ℕ → ClockEvent → Clocked
 
 pub data Side : Type 0 where
   receives transmits : Side
@@ -60,39 +60,39 @@ pulsed receives c = c .receiver
 pulsed transmits c = c .transmitter
 
 -- "receiver on a rising edge .. transmitter on a falling edge"
-abbrev pub edgeOf : Side → Beat → Bool
+abbrev pub edgeOf : Side → ClockEvent → Bool
 edgeOf receives b = b .rising
 edgeOf transmits b = b .falling
 
 -- the phases after some events
-unfoldable pub afterBeats : Clock → Phases → Bool → ℕ → List Beat → Phases
-afterBeats c p second csr [] = p
-afterBeats c p second csr (b ∷ bs) = afterBeats c (c p second csr b .phases) second csr bs
+unfoldable pub afterEvents : Clock → Phases → Bool → ℕ → List ClockEvent → Phases
+afterEvents c p second csr [] = p
+afterEvents c p second csr (b ∷ bs) = afterEvents c (c p second csr b .phases) second csr bs
 
 -- how many of them are ticks
-unfoldable pub ticksIn : List Beat → ℕ
+unfoldable pub ticksIn : List ClockEvent → ℕ
 ticksIn [] = 0
 ticksIn (b ∷ bs) = bit (b .tick) + ticksIn bs
 
 -- how many pulses the transmitter has in them
-unfoldable pub sentIn : Clock → Phases → Bool → ℕ → List Beat → ℕ
+unfoldable pub sentIn : Clock → Phases → Bool → ℕ → List ClockEvent → ℕ
 sentIn c p second csr [] = 0
 sentIn c p second csr (b ∷ bs) = bit (c p second csr b .transmitter) + sentIn c (c p second csr b .phases) second csr bs
 
 -- the next event after some, since a restart
-abbrev pub next : Clock → Bool → ℕ → List Beat → Beat → Clocked
-next c second csr bs b = c (afterBeats c restarted second csr bs) second csr b
+abbrev pub next : Clock → Bool → ℕ → List ClockEvent → ClockEvent → Clocked
+next c second csr bs b = c (afterEvents c restarted second csr bs) second csr b
 
 pub record Clocks (c : Clock) : Type 0 where
   -- codes 0 to 12: a pulse at each period-th tick since the restart, whatever else comes between
-  pub fixed : (side : Side) (second : Bool) (csr : ℕ) (bs : List Beat) (b : Beat) → codeOf side csr < 13
+  pub fixed : (side : Side) (second : Bool) (csr : ℕ) (bs : List ClockEvent) (b : ClockEvent) → codeOf side csr < 13
       → pulsed side (next c second csr bs b) ≡ (b .tick && eqb (suc (ticksIn bs) % periodOf second (codeOf side csr) .0) 0)
   -- "13: the timer's toggle to high"
-  pub timer : (side : Side) (p : Phases) (second : Bool) (csr : ℕ) (b : Beat) → codeOf side csr ≡ 13 → pulsed side (c p second csr b) ≡ b .toggled
+  pub timer : (side : Side) (p : Phases) (second : Bool) (csr : ℕ) (b : ClockEvent) → codeOf side csr ≡ 13 → pulsed side (c p second csr b) ≡ b .toggled
   -- "14 (16X), 15 (1X)": the pin's edge
-  pub pin : (side : Side) (p : Phases) (second : Bool) (csr : ℕ) (b : Beat) → 13 < codeOf side csr → pulsed side (c p second csr b) ≡ edgeOf side b
+  pub pin : (side : Side) (p : Phases) (second : Bool) (csr : ℕ) (b : ClockEvent) → 13 < codeOf side csr → pulsed side (c p second csr b) ≡ edgeOf side b
   -- the 1X transmitter clock: "every 16th 16X pulse since that phase restarted"
-  pub sixteenth : (second : Bool) (csr : ℕ) (bs : List Beat) (b : Beat) → isSixteen (codeOf transmits csr) ≡ true
+  pub sixteenth : (second : Bool) (csr : ℕ) (bs : List ClockEvent) (b : ClockEvent) → isSixteen (codeOf transmits csr) ≡ true
       → next c second csr bs b .one ≡ (next c second csr bs b .transmitter && eqb (suc (sentIn c restarted second csr bs) % 16) 0)
   -- "or each 1X pulse"
-  pub each : (p : Phases) (second : Bool) (csr : ℕ) (b : Beat) → isSixteen (codeOf transmits csr) ≡ false → c p second csr b .one ≡ c p second csr b .transmitter
+  pub each : (p : Phases) (second : Bool) (csr : ℕ) (b : ClockEvent) → isSixteen (codeOf transmits csr) ≡ false → c p second csr b .one ≡ c p second csr b .transmitter

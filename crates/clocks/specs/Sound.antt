@@ -4,7 +4,7 @@ use Prim.Native.Nat.{ℕ}
 use mathlib.Core.Path.{_≡_}
 use mathlib.Core.Bool.{Bool, true, _&&_}
 use lib.Dec.{leb}
-use Rattle.clocks.specs.declared.channel.Beat.{Beat}
+use Rattle.clocks.specs.declared.channel.ClockEvent.{ClockEvent}
 use Rattle.clocks.specs.declared.channel.Phases.{Phases}
 use Rattle.clocks.specs.declared.timer.Timer.{Timer}
 use Rattle.clocks.specs.Pulses.{Clock}
@@ -19,7 +19,7 @@ timerInRange t = leb (t .ticks .0) 15 && leb (t .edges .0) 15
 
 -- a way to clock a channel that keeps its phases in range, on all that are, reached or not
 abbrev pub KeepsPhases : Clock → Type 0
-KeepsPhases c = (p : Phases) (second : Bool) (csr : ℕ) (b : Beat) → phasesInRange p ≡ true → phasesInRange (c p second csr b .phases) ≡ true
+KeepsPhases c = (p : Phases) (second : Bool) (csr : ℕ) (b : ClockEvent) → phasesInRange p ≡ true → phasesInRange (c p second csr b .phases) ≡ true
 
 -- a way to change a timer that keeps it in range
 abbrev pub KeepsTimer : (Timer → Timer) → Type 0

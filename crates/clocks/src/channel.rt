@@ -7,10 +7,10 @@ use crate::rates::period_of;
 use frame::Pulses;
 use frame::Ticks;
 ghost use mathlib.Core.Path.{_≡_};
-ghost use Rattle.clocks.specs.Channel.{restarted, restartedOnChange, isSixteen, tickedOf, sideOf, transmitterBit, clockedOf};
+ghost use Rattle.clocks.specs.Channel.{restarted, restartedOnChange, isSixteen, tickedOf, sideOf, transmitter1x, clockedOf};
 
 // "13: the timer's toggle to high"
-const TIMER: u8 = 13;
+const TIMER_TOGGLE: u8 = 13;
 
 // "14 (16X), 15 (1X)": a pin
 const PIN_1X: u8 = 15;
@@ -27,7 +27,7 @@ pub struct Phases {
 }
 
 // What an event brings to a channel's clocks.
-pub struct Beat {
+pub struct ClockEvent {
     // a tick of the crystal
     pub tick: bool,
     // the timer toggled to high
@@ -47,7 +47,8 @@ pub struct Clocked {
     pub one: bool,
 }
 
-// "A CSR write restarts that channel's phases, the next pulse coming a full period later"
+// "A CSR write restarts that channel's phases, the next pulse coming a full period later"; and after a
+// chip reset every phase is 0.
 pub fn restart() -> Phases
     ensures { λ r. ⌜ r ≡ restarted ⌝ }
 {
@@ -89,16 +90,16 @@ fn tick_side(phase: Ticks, period: Ticks, tick: bool) -> Divided
 }
 
 // One side in an event: its divider for codes 0 to 12, the timer for 13, its pin's edge for 14 and 15.
-fn side(phase: Ticks, second: bool, code: u8, beat: Beat, edge: bool) -> Divided
-    ensures { λ r. ⌜ r ≡ sideOf phase second code beat edge ⌝ }
+fn side(phase: Ticks, second: bool, code: u8, event: ClockEvent, edge: bool) -> Divided
+    ensures { λ r. ⌜ r ≡ sideOf phase second code event edge ⌝ }
 {
-    if code < TIMER {
-        return tick_side(phase, period_of(second, code), beat.tick);
+    if code < TIMER_TOGGLE {
+        return tick_side(phase, period_of(second, code), event.tick);
     }
-    if code == TIMER {
+    if code == TIMER_TOGGLE {
         return Divided {
             phase: phase,
-            pulse: beat.toggled,
+            pulse: event.toggled,
         };
     }
     Divided {
@@ -108,8 +109,8 @@ fn side(phase: Ticks, second: bool, code: u8, beat: Beat, edge: bool) -> Divided
 }
 
 // The 1X transmitter clock: "every 16th 16X pulse since that phase restarted, or each 1X pulse".
-fn transmitter_bit(phase: Pulses, code: u8, pulse: bool) -> Sixteenth
-    ensures { λ r. ⌜ r ≡ transmitterBit phase code pulse ⌝ }
+fn transmitter_1x(phase: Pulses, code: u8, pulse: bool) -> Sixteenth
+    ensures { λ r. ⌜ r ≡ transmitter1x phase code pulse ⌝ }
 {
     if pulse {
         if is_sixteen(code) {
@@ -127,12 +128,12 @@ fn transmitter_bit(phase: Pulses, code: u8, pulse: bool) -> Sixteenth
 }
 
 // A channel's clocks in an event. "CSR bits 7-4 receiver, 3-0 transmitter."; the set is ACR bit 7's.
-pub fn clock_channel(phases: Phases, second: bool, csr: u8, beat: Beat) -> Clocked
-    ensures { λ r. ⌜ r ≡ clockedOf phases second csr beat ⌝ }
+pub fn clock_channel(phases: Phases, second: bool, csr: u8, event: ClockEvent) -> Clocked
+    ensures { λ r. ⌜ r ≡ clockedOf phases second csr event ⌝ }
 {
-    let receiver = side(phases.receiver, second, csr / 16, beat, beat.rising);
-    let transmitter = side(phases.transmitter, second, csr % 16, beat, beat.falling);
-    let bit = transmitter_bit(phases.sixteenths, csr % 16, transmitter.pulse);
+    let receiver = side(phases.receiver, second, csr / 16, event, event.rising);
+    let transmitter = side(phases.transmitter, second, csr % 16, event, event.falling);
+    let bit = transmitter_1x(phases.sixteenths, csr % 16, transmitter.pulse);
     let receiver_phase = receiver.phase;
     let transmitter_phase = transmitter.phase;
     let sixteenths = bit.phase;

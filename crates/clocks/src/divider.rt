@@ -16,7 +16,8 @@ pub struct Sixteenth {
     pub pulse: bool,
 }
 
-// One tick: "the next pulse coming a full period later" than phase 0.
+// One tick: "the next pulse coming a full period later" than phase 0. The first test leaves room for
+// one tick more, whatever the phase holds.
 pub fn divide(phase: Ticks, period: Ticks) -> Divided
     ensures { λ r. ⌜ r ≡ dividedOf phase period ⌝ }
 {

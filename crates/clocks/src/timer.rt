@@ -6,6 +6,24 @@ use frame::Ticks;
 ghost use mathlib.Core.Path.{_≡_};
 ghost use Rattle.clocks.specs.Timer.{freshTimer, modeOf, isTimer, countedDown, counterPulsed, timerPulsed, pulsedBy, tickPulses, edgePulses, transmitterPulses, tickedBy, edgedBy, transmittedBy, startedOf, stoppedOf, modeChanged};
 
+// "ACR 6-4: 0-3 counter on rising IP2, TxCA 1X, TxCB 1X, ticks/16; 4-7 timer on rising IP2, IP2/16,
+// ticks, ticks/16."
+const COUNTER_ON_IP2: u8 = 0;
+
+const COUNTER_ON_TXCA: u8 = 1;
+
+const COUNTER_ON_TXCB: u8 = 2;
+
+const COUNTER_ON_TICKS_16: u8 = 3;
+
+const TIMER_ON_IP2: u8 = 4;
+
+const TIMER_ON_IP2_16: u8 = 5;
+
+const TIMER_ON_TICKS: u8 = 6;
+
+const TIMER_ON_TICKS_16: u8 = 7;
+
 #[repr(C)]
 pub struct Timer {
     pub preload: u16,
@@ -55,7 +73,7 @@ pub fn mode_of(acr: u8) -> u8
 fn is_timer(mode: u8) -> bool
     ensures { λ r. ⌜ r ≡ isTimer mode ⌝ }
 {
-    4 <= mode
+    TIMER_ON_IP2 <= mode
 }
 
 // "Each pulse takes 1 from the count, modulo 65,536"
@@ -105,7 +123,7 @@ fn pulse_timer(timer: Timer) -> Counted
     }
 }
 
-// The counter/timer where its clock has a pulse, and where it has none.
+// A counter takes a pulse only while it runs; "Timer: always runs".
 fn pulse_by(timer: Timer, mode: u8, pulse: bool) -> Counted
     ensures { λ r. ⌜ r ≡ pulsedBy timer mode pulse ⌝ }
 {
@@ -124,14 +142,15 @@ fn pulse_by(timer: Timer, mode: u8, pulse: bool) -> Counted
     }
 }
 
-// The modes that a tick pulses, and those that every 16th pulses.
+// Whether a tick is a pulse in a mode: every tick, or every 16th.
 fn tick_pulses(mode: u8, sixteenth: bool) -> bool
     ensures { λ r. ⌜ r ≡ tickPulses mode sixteenth ⌝ }
 {
-    (mode == 6) | (((mode == 3) | (mode == 7)) & sixteenth)
+    (mode == TIMER_ON_TICKS)
+        | (((mode == COUNTER_ON_TICKS_16) | (mode == TIMER_ON_TICKS_16)) & sixteenth)
 }
 
-// A tick of the crystal.
+// A tick of the crystal. "Both /16 phases always run": in every mode.
 pub fn step_by_tick(timer: Timer, mode: u8) -> Counted
     ensures { λ r. ⌜ r ≡ tickedBy timer mode ⌝ }
 {
@@ -142,14 +161,14 @@ pub fn step_by_tick(timer: Timer, mode: u8) -> Counted
     pulse_by(t, mode, tick_pulses(mode, divided.pulse))
 }
 
-// The modes that a rising edge of IP2 pulses, and the one that every 16th pulses.
+// Whether a rising edge of IP2 is: every one, or every 16th.
 fn edge_pulses(mode: u8, sixteenth: bool) -> bool
     ensures { λ r. ⌜ r ≡ edgePulses mode sixteenth ⌝ }
 {
-    (mode == 0) | (mode == 4) | ((mode == 5) & sixteenth)
+    (mode == COUNTER_ON_IP2) | (mode == TIMER_ON_IP2) | ((mode == TIMER_ON_IP2_16) & sixteenth)
 }
 
-// A rising edge of IP2.
+// A rising edge of IP2: its phase always runs too.
 pub fn step_by_edge(timer: Timer, mode: u8) -> Counted
     ensures { λ r. ⌜ r ≡ edgedBy timer mode ⌝ }
 {
@@ -160,11 +179,11 @@ pub fn step_by_edge(timer: Timer, mode: u8) -> Counted
     pulse_by(t, mode, edge_pulses(mode, divided.pulse))
 }
 
-// The modes that the 1X transmitter clocks pulse.
+// Whether the 1X transmitter clocks are, of A and of B.
 fn transmitter_pulses(mode: u8, a: bool, b: bool) -> bool
     ensures { λ r. ⌜ r ≡ transmitterPulses mode a b ⌝ }
 {
-    ((mode == 1) & a) | ((mode == 2) & b)
+    ((mode == COUNTER_ON_TXCA) & a) | ((mode == COUNTER_ON_TXCB) & b)
 }
 
 // "counter from a 1X transmitter clock": which of A and B had a pulse.
@@ -177,7 +196,7 @@ pub fn step_by_transmitter(timer: Timer, mode: u8, a: bool, b: bool) -> Timer
 
 // "Counter: start loads the preload and runs"; "Timer: .. start reloads and drives the output high,
 // setting no bit".
-pub fn start_timer(timer: Timer, mode: u8) -> Timer
+pub fn start_counter(timer: Timer, mode: u8) -> Timer
     ensures { λ r. ⌜ r ≡ startedOf timer mode ⌝ }
 {
     let mut t = timer;
@@ -191,7 +210,7 @@ pub fn start_timer(timer: Timer, mode: u8) -> Timer
 }
 
 // "Counter: .. stop halts and clears the bit"; "Timer: .. stop clears the bit only".
-pub fn stop_timer(timer: Timer, mode: u8) -> Timer
+pub fn stop_counter(timer: Timer, mode: u8) -> Timer
     ensures { λ r. ⌜ r ≡ stoppedOf timer mode ⌝ }
 {
     let mut t = timer;

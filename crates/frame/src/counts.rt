@@ -5,7 +5,7 @@
 pub struct Ticks(pub u64);
 
 // Pulses of a side's clock, which are 16X pulses, or with a 1X clock one a bit: a frame's length, a
-// stop length in sixteenths.
+// stop length in sixteenths; and those of a pin that /16 counts.
 #[repr(C)]
 pub struct Pulses(pub u8);
 

@@ -2,7 +2,7 @@
 // from its 1X clock.
 use crate::driver::Driver;
 use crate::driver::observe;
-use clocks::Beat;
+use clocks::ClockEvent;
 use clocks::Clocked;
 use clocks::Counted;
 use clocks::Timer;
@@ -39,8 +39,8 @@ fn pulsed(driver: Driver, pulse: bool) -> Transmitter {
 }
 
 // Channel A's clocks and transmitter, and the counter from its 1X clock.
-fn clock(driver: Driver, timer: Timer, beat: Beat) -> Driver {
-    let clocked = clock_channel(driver.phases, 128 <= driver.acr, driver.csr, beat);
+fn clock(driver: Driver, timer: Timer, event: ClockEvent) -> Driver {
+    let clocked = clock_channel(driver.phases, 128 <= driver.acr, driver.csr, event);
     let phases = clocked.phases;
     let transmitter = pulsed(driver, clocked.transmitter);
     let after = step_by_transmitter(timer, mode_of(driver.acr), clocked.one, false);
@@ -53,13 +53,13 @@ fn clock(driver: Driver, timer: Timer, beat: Beat) -> Driver {
 
 pub fn tick(driver: Driver) -> Driver {
     let counted = step_by_tick(driver.timer, mode_of(driver.acr));
-    let beat = Beat {
+    let event = ClockEvent {
         tick: true,
         toggled: counted.toggled,
         rising: false,
         falling: false,
     };
-    clock(driver, counted.timer, beat)
+    clock(driver, counted.timer, event)
 }
 
 pub fn ticks(driver: Driver, times: u64) -> Driver {
@@ -88,7 +88,7 @@ fn count_edge(driver: Driver, rises: bool) -> Counted {
 pub fn set_pins(driver: Driver, pins: u8) -> Driver {
     let before = driver.pins;
     let counted = count_edge(driver, !level(before, 4) & level(pins, 4));
-    let beat = Beat {
+    let event = ClockEvent {
         tick: false,
         toggled: counted.toggled,
         rising: !level(before, 16) & level(pins, 16),
@@ -96,5 +96,5 @@ pub fn set_pins(driver: Driver, pins: u8) -> Driver {
     };
     let mut d = driver;
     d.pins = pins;
-    clock(d, counted.timer, beat)
+    clock(d, counted.timer, event)
 }

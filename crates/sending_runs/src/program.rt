@@ -8,8 +8,8 @@ use clocks::fresh_timer;
 use clocks::mode_of;
 use clocks::restart;
 use clocks::restart_on_change;
-use clocks::start_timer;
-use clocks::stop_timer;
+use clocks::start_counter;
+use clocks::stop_counter;
 use transmitter::Input;
 use transmitter::fresh_transmitter;
 use transmitter::step_transmitter;
@@ -67,11 +67,11 @@ pub fn start_or_stop(driver: Driver, starts: bool) -> Driver {
     let mode = mode_of(driver.acr);
     let mut d = driver;
     if starts {
-        let started = start_timer(driver.timer, mode);
+        let started = start_counter(driver.timer, mode);
         d.timer = started;
         return quiet(d);
     }
-    let stopped = stop_timer(driver.timer, mode);
+    let stopped = stop_counter(driver.timer, mode);
     d.timer = stopped;
     quiet(d)
 }

@@ -1,13 +1,13 @@
 -- A break. While it is sent TxD is low and only a stop, a disable or a reset does anything to it (`InBreak`); after it TxD is high and so
 -- many pulses of the one bit are owed (`Owing`): each pulse takes one off, every other input but a chip reset leaves them. Assumes nothing.
 use Prim.Native.Nat.{ℕ, zero, suc, _-_, _≤_}
-use mathlib.Core.Path.{_≡_, refl, sym}
+use mathlib.Core.Path.{_≡_, refl, sym, _∙_}
 use mathlib.Core.Bool.{Bool, true, false, and-eq-true-iff, true≢false}
 use mathlib.Core.List.{List, [], _∷_, _++_}
 use native.Mathlib.Omega.{arith}
 use native.Mathlib.Nat.{sub-zero, suc-sub-suc}
 use lib.Dec.{eqb}
-use borrow.Author.Tests.{ne-eqb}
+use borrow.Author.Tests.{eqb-true, ne-eqb}
 use Rattle.frame.specs.Pick.{pick}
 use Rattle.frame.proofs.Laws.Pick.{pick-yes, pick-no, pick-all}
 use Rattle.transmitter.specs.declared.sending.Standing.{Standing}
@@ -19,7 +19,7 @@ use Rattle.transmitter.specs.Sending.{canStart, breakBegun, idleOf, held
 use Rattle.transmitter.specs.Commands.{writtenOf, highAfter, breakEnded, droppedOf, breakAsked}
 use Rattle.transmitter.specs.Transmitter.{afterInput}
 use Rattle.transmitter.specs.Frames.{after, pulsesIn, free}
-use Rattle.transmitter.specs.Breaks.{unended, clockedAt, allAt, Ends, Breaks}
+use Rattle.transmitter.specs.Breaks.{unended, clockedAt, allAt, Ends, Breaks, EachPulse}
 use Rattle.transmitter.specs.Breaks.Ends.{stops, disables, resets}
 use Rattle.transmitter.proofs.Laws.Free.{none-begins, after-append}
 
@@ -169,4 +169,26 @@ breaks =
       done = λ t s xs x sixteen ys f c a k e g l.
           let none : pick sixteen 16 1 - pulsesIn ys ≡ 0 = omega arith in
           rw (rw none at (settled t s xs x sixteen ys f c a k e g (omega arith) .phase));
+    }
+
+-- ---- input by input ----
+
+begun : (t : Transmitter) (s : Standing) → free t ≡ true → canStart t s ≡ false → t .asked ≡ true → afterInput t (Pulse s) ≡ breakBegun t
+begun t s f c a = none-begins t s f c ∙ pick-yes (t .asked) (breakBegun t) (idleOf t) a
+
+-- a pulse in the high bit
+held : (t : Transmitter) (s : Standing) → eqb (t .phase) 3 ≡ true → afterInput t (Pulse s) ≡ heldHigh t s
+unfolding afterInput pulsedOf pick
+held t s e = rw (eqb-true (t .phase) 3 e)
+
+pub each-pulse : EachPulse afterInput
+unfolding afterInput pulsedOf heldHigh breakEnded pick
+each-pulse =
+    record {
+      begins = begun;
+      lasts = λ t s e. rw (eqb-true (t .phase) 2 e);
+      ends = λ t e. rw e;
+      counts = λ t s e k l. held t s e ∙ rw (k, l);
+      completes = λ t s e k l. held t s e ∙ rw (k, l);
+      completes1x = λ t s e k. held t s e ∙ rw k;
     }

@@ -114,6 +114,8 @@ record Broken : Type 0 where
   -- the start is on the pulse after the sixteenth, at 1X after the first
   sixteen : lineOver (eight true) 17 (ended StopBreak true) ≡ replicate 16 true ++ (false ∷ [])
   once : lineOver (eight false) 2 (ended StopBreak false) ≡ true ∷ false ∷ []
+  -- five at 16X, and one at 1X that completes the bit: the start is on the next
+  mixed : lineOver (eight false) 2 (after afterInput (ended StopBreak true) (pulses true 5)) ≡ true ∷ false ∷ []
   clock : (allAt true (Disable ∷ Enable ∷ pulses true 16) ≡ true) × (allAt false (pulses false 1) ≡ true)
   -- after a disable it waits for an enable; a reset has dropped it
   disabled : (lineOver (eight false) 2 (ended Disable false) ≡ true ∷ true ∷ []) × (ended Disable false .full ≡ true)
@@ -130,6 +132,7 @@ broken =
       lasts = refl;
       sixteen = refl;
       once = refl;
+      mixed = refl;
       clock = (refl, refl);
       disabled = (refl, refl);
       reset = (refl, refl);

@@ -16,7 +16,7 @@ use Rattle.frame.specs.declared.counts.Pulses.{Pulses}
 use Rattle.frame.specs.Pick.{pick}
 use Rattle.frame.specs.Format.{formatOf, stopCodeOf}
 use Rattle.frame.specs.Levels.{beforeStop, frame, frameBitsOf, frameLengthOf, levelOf}
-use Rattle.frame.proofs.Laws.Pick.{pick-yes, pick-all}
+use Rattle.frame.proofs.Laws.Pick.{pick-yes, pick-no, pick-all}
 use Rattle.frame.proofs.Laws.Levels.{before-stop-most, length-before-stop, frame-length, frame-at}
 use Rattle.frame.proofs.Laws.Register.{register-at}
 use Rattle.transmitter.specs.declared.sending.Standing.{Standing}
@@ -29,7 +29,7 @@ use Rattle.transmitter.specs.Sending.{canStart, takenOf, startedOf, brea
 use Rattle.transmitter.specs.Commands.{writtenOf, breakEnded, breakAsked}
 use Rattle.transmitter.specs.Status.{shifterEmpty}
 use Rattle.transmitter.specs.Transmitter.{afterInput}
-use Rattle.transmitter.specs.Frames.{after, pulsesIn, line, noReset, free, Startable, frameAt, Rests, Sends, inTime, stream, framesOf, GoesBackToBack}
+use Rattle.transmitter.specs.Frames.{after, pulsesIn, line, noReset, free, Startable, frameAt, Sends, inTime, stream, framesOf, GoesBackToBack}
 use Rattle.transmitter.proofs.Laws.Free.{free-begins, none-begins}
 
 -- ---- the shifter's level is the frame's ----
@@ -158,16 +158,17 @@ empties : (t : Transmitter) (u : Standing) → free t ≡ true → canStart t u 
 empties t u f c =
     rw (none-begins t u f c) (pick-all (λ (n : Transmitter). shifterEmpty n ≡ true) (t .asked) (breakBegun t) (idleOf t) refl refl)
 
-rests-on : (t : Transmitter) (s : Standing) → free t ≡ true → canStart t s ≡ false → t .asked ≡ false → Rests t (afterInput t (Pulse s))
-unfolding pick
-rests-on t s f c a = rw (none-begins t s f c, a) (record { high = refl; empty = refl; full = refl; holding = refl })
+rests-on : (t : Transmitter) (s : Standing) → free t ≡ true → canStart t s ≡ false → t .asked ≡ false → afterInput t (Pulse s) ≡ idleOf t
+rests-on t s f c a = none-begins t s f c ∙ pick-no (t .asked) (breakBegun t) (idleOf t) a
 
 pub sends : Sends afterInput
 sends =
     record {
       level = λ t s xs h k l. sending-after t s xs h k l .level;
       holds = λ t s xs h k l. rw (sending-after t s xs h k l .phase);
-      leaves = λ t s h. rw (starts h);
+      leaves = λ t s h. rw (starts h) (record { enabled = refl; full = refl; holding = refl; asked = refl });
+      inside = λ t s xs u h k l.
+          rw (pulsed s (t .holding) u (sending-after t s xs h k (omega arith)) l) (record { enabled = refl; full = refl; holding = refl; asked = refl });
       over = λ t s xs h k e.
           let all = over-free s (t .holding) (sending-after t s xs h k (omega arith)) e in
           (all, λ u c. empties (after afterInput t (Pulse s ∷ xs)) u all c);

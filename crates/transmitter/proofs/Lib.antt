@@ -4,4 +4,5 @@ pub mod Frames
 pub mod Breaks
 pub mod Obeys
 pub mod Wrong
+pub mod WrongBreaks
 pub mod Examples

@@ -11,6 +11,7 @@ use Rattle.transmitter.specs.State.{withAsked}
 use Rattle.transmitter.specs.Commands.{writtenOf, breakEnded, droppedOf, breakAsked}
 use Rattle.transmitter.specs.Status.{shifterEmpty}
 use Rattle.transmitter.specs.Transmitter.{afterInput}
+use Rattle.transmitter.specs.Frames.{free}
 use Rattle.transmitter.specs.Obeys.{AllDropped, Obeys}
 
 unasked : (t : Transmitter) → t .enabled ≡ false → afterInput t StartBreak ≡ t
@@ -42,8 +43,16 @@ unfolding afterInput droppedOf
 resets t =
     record { disabled = refl; holding = refl; shifter = dropped-empty (breakEnded t); asked = ended-unasked t; high = refl }
 
+frees : (t : Transmitter) → eqb (breakEnded t .phase) 3 ≡ false → free (droppedOf (breakEnded t)) ≡ true
+unfolding droppedOf pick
+frees t e = rw e
+
+owes : (t : Transmitter) → eqb (breakEnded t .phase) 3 ≡ true → eqb (droppedOf (breakEnded t) .phase) 3 ≡ true
+unfolding droppedOf pick
+owes t e = rw (e, e)
+
 pub obeys : Obeys afterInput
-unfolding afterInput writtenOf breakEnded breakAsked pick
+unfolding afterInput writtenOf breakEnded breakAsked droppedOf pick
 obeys =
     record {
       ignores = λ t byte e. rw e;
@@ -55,6 +64,8 @@ obeys =
       already = λ t e. rw e;
       drops = λ t e. rw e;
       resets = resets;
+      frees = frees;
+      owes = λ t e. (owes t e, refl);
       resetsChip = λ t. refl;
       nothing = λ t. refl;
     }

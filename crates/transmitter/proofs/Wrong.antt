@@ -1,9 +1,9 @@
 -- The statements shut wrong transmitters out. Each takes inputs as `afterInput` does but for one fault, and each is refuted by computing
--- what becomes of a short frame, a pair of them or a break: `Sends` is false of eight, `GoesBackToBack` of two, `Breaks` of four,
--- `Obeys` of two, `KeepsRanges` of one. Assumes nothing.
+-- what becomes of a short frame, a pair of them or a break: `Sends` is false of ten, `GoesBackToBack` of two, `KeepsRanges` of
+-- one. Assumes nothing.
 use Prim.Native.Nat.{ℕ, suc}
 use mathlib.Core.Path.{_≡_, refl, sym, ap}
-use mathlib.Core.Bool.{Bool, true, false, _&&_, true≢false}
+use mathlib.Core.Bool.{Bool, true, false, not, _&&_, true≢false}
 use mathlib.Core.List.{List, [], _∷_}
 use native.Mathlib.Omega.{arith}
 use lib.Dec.{eqb, leb}
@@ -19,33 +19,49 @@ use Rattle.transmitter.specs.declared.state.Shifter.{Shifter}
 use Rattle.transmitter.specs.declared.state.Transmitter.{Transmitter}
 use Rattle.transmitter.specs.declared.transmitter.Input.{Input}
 use Rattle.transmitter.specs.declared.transmitter.Input.the-variants.{Nothing, Pulse, Write, Enable, Disable, StartBreak, StopBreak, Reset, ChipReset}
-use Rattle.transmitter.specs.State.{emptyShifter, freshTransmitter, withEnabled, withHolding, withPhase, withShifter, withLeft, withAsked}
-use Rattle.transmitter.specs.Sending.{canStart, takenOf, startedOf, breakBegun, idleOf, begunOf, bitOfPulse, oneMore, sentOnOf, heldHigh, pulsedOf}
-use Rattle.transmitter.specs.Commands.{writtenOf, enabledOf, highAfter, breakEnded, disabledOf, resetOf, breakAsked}
+use Rattle.transmitter.specs.State.{emptyShifter, freshTransmitter, withEnabled, withHolding, withPhase, withShifter, withAsked}
+use Rattle.transmitter.specs.Sending.{canStart, takenOf, startedOf, breakBegun, idleOf, begunOf, bitOfPulse, oneMore, sentOnOf, pulsedOf}
+use Rattle.transmitter.specs.Commands.{writtenOf, enabledOf, breakEnded, disabledOf, resetOf, breakAsked}
 use Rattle.transmitter.specs.Transmitter.{afterInput}
 use Rattle.transmitter.specs.Frames.{Step, after, pulsesIn, line, free, Startable, Sends, GoesBackToBack}
-use Rattle.transmitter.specs.Breaks.{Breaks}
-use Rattle.transmitter.specs.Breaks.Ends.{stops}
-use Rattle.transmitter.specs.Obeys.{Obeys}
 use Rattle.transmitter.specs.Sound.{KeepsRanges}
 
 -- ---- one fault ----
 
--- `afterInput` with other ways to take a pulse, a write, a disable and a stop break
-abbrev taking : (Transmitter → Standing → Transmitter) → (Transmitter → ℕ → Transmitter) → (Transmitter → Transmitter) → (Transmitter → Transmitter)
-    → Step
-taking pulse write disable stop t Nothing = t
-taking pulse write disable stop t (Pulse s) = pulse t s
-taking pulse write disable stop t (Write byte) = write t byte
-taking pulse write disable stop t Enable = enabledOf t
-taking pulse write disable stop t Disable = disable t
-taking pulse write disable stop t StartBreak = breakAsked t
-taking pulse write disable stop t StopBreak = stop t
-taking pulse write disable stop t Reset = resetOf t
-taking pulse write disable stop t ChipReset = freshTransmitter
+-- other ways to take a pulse, a write, a disable, a stop break and a reset
+pub record Ways : Type 0 where
+  pub pulse : Transmitter → Standing → Transmitter
+  pub write : Transmitter → ℕ → Transmitter
+  pub disable : Transmitter → Transmitter
+  pub stop : Transmitter → Transmitter
+  pub reset : Transmitter → Transmitter
 
-abbrev pulsing : (Transmitter → Standing → Transmitter) → Step
-pulsing pulse = taking pulse writtenOf disabledOf breakEnded
+-- `afterInput` with those
+abbrev pub taking : Ways → Step
+taking w t Nothing = t
+taking w t (Pulse s) = w .pulse t s
+taking w t (Write byte) = w .write t byte
+taking w t Enable = enabledOf t
+taking w t Disable = w .disable t
+taking w t StartBreak = breakAsked t
+taking w t StopBreak = w .stop t
+taking w t Reset = w .reset t
+taking w t ChipReset = freshTransmitter
+
+abbrev pub pulsing : (Transmitter → Standing → Transmitter) → Step
+pulsing f = taking (record { pulse = f; write = writtenOf; disable = disabledOf; stop = breakEnded; reset = resetOf })
+
+abbrev pub writing : (Transmitter → ℕ → Transmitter) → Step
+writing f = taking (record { pulse = pulsedOf; write = f; disable = disabledOf; stop = breakEnded; reset = resetOf })
+
+abbrev pub disabling : (Transmitter → Transmitter) → Step
+disabling f = taking (record { pulse = pulsedOf; write = writtenOf; disable = f; stop = breakEnded; reset = resetOf })
+
+abbrev pub stopping : (Transmitter → Transmitter) → Step
+stopping f = taking (record { pulse = pulsedOf; write = writtenOf; disable = disabledOf; stop = f; reset = resetOf })
+
+abbrev pub resetting : (Transmitter → Transmitter) → Step
+resetting f = taking (record { pulse = pulsedOf; write = writtenOf; disable = disabledOf; stop = breakEnded; reset = f })
 
 -- with none of them another it is the right one
 none-other : (t : Transmitter) (x : Input) → pulsing pulsedOf t x ≡ afterInput t x
@@ -61,20 +77,20 @@ none-other t Reset = refl
 none-other t ChipReset = refl
 
 -- MR1 16 and MR2 7 at 1X: a frame of seven pulses, 5 data bits, no parity, one stop bit
-abbrev once : Standing
+abbrev pub once : Standing
 once = record { mr1 = 16; mr2 = 7; sixteen = false; cts = false }
 
-abbrev enabled : Transmitter
+abbrev pub enabled : Transmitter
 enabled = withEnabled freshTransmitter true
 
 -- a character that can start
-abbrev ready : ℕ → Transmitter
+abbrev pub ready : ℕ → Transmitter
 ready byte = withHolding enabled true byte
 
-abbrev pulses : ℕ → List Input
+abbrev pub pulses : ℕ → List Input
 pulses n = replicate n (Pulse once)
 
-startable : (byte : ℕ) → Startable (ready byte) once
+pub startable : (byte : ℕ) → Startable (ready byte) once
 unfolding pick
 startable byte = record { idle = refl; enabled = refl; full = refl; clear = refl }
 
@@ -121,7 +137,7 @@ no-readsFormat h =
 
 -- "Disable lets the shifter finish"
 unfoldable pub disableDrops : Step
-disableDrops = taking pulsedOf writtenOf (λ t. pick (eqb (t .phase) 1) (idleOf (withShifter (disabledOf t) emptyShifter)) (disabledOf t)) breakEnded
+disableDrops = disabling (λ t. pick (eqb (t .phase) 1) (idleOf (withShifter (disabledOf t) emptyShifter)) (disabledOf t))
 
 pub no-disableDrops : Sends disableDrops → ⊥
 unfolding disableDrops after pulsesIn pulsedOf begunOf pick frame levels spread beforeStop
@@ -130,7 +146,7 @@ no-disableDrops h = true≢false (h .level (ready 0) once (Disable ∷ []) (star
 -- ---- TxD raised by a stop break in a frame ----
 
 unfoldable pub stopRaises : Step
-stopRaises = taking pulsedOf writtenOf disabledOf (λ t. withPhase (breakEnded t) (breakEnded t .phase) true)
+stopRaises = stopping (λ t. withPhase (breakEnded t) (breakEnded t .phase) true)
 
 pub no-stopRaises : Sends stopRaises → ⊥
 unfolding stopRaises after pulsesIn pick frame levels spread beforeStop
@@ -171,7 +187,7 @@ pub no-emptiesEarly : Sends emptiesEarly → ⊥
 unfolding emptiesEarly after pulsesIn pulsedOf sentOnOf begunOf takenOf pick frame levels spread beforeStop bitsOf parityBits formatOf frameLengthOf bitsBeforeStopOf stopBitsOf
 no-emptiesEarly h = true≢false (h .holds (ready 0) once (pulses 6) (startable 0) refl (omega arith))
 
--- ---- one character, and then no more ----
+-- ---- a pause after a frame, and a write that is lost ----
 
 -- never a start from a frame that is just over
 unfoldable pub pauses : Step
@@ -183,52 +199,11 @@ no-pauses h = true≢false (ap (λ (l : List Bool). getD l 7 true) (h enabled on
 
 -- a write while the shifter holds a character is lost
 unfoldable pub losesWrites : Step
-losesWrites = taking pulsedOf (λ t byte. pick (eqb (t .phase) 1) t (writtenOf t byte)) disabledOf breakEnded
+losesWrites = writing (λ t byte. pick (eqb (t .phase) 1) t (writtenOf t byte))
 
 pub no-losesWrites : GoesBackToBack losesWrites → ⊥
 unfolding losesWrites line pulsedOf sentOnOf begunOf takenOf writtenOf pick frame levels spread beforeStop bitsOf parityBits formatOf frameLengthOf bitsBeforeStopOf stopBitsOf
 no-losesWrites h = true≢false (ap (λ (l : List Bool). getD l 7 true) (h enabled once 0 ((0, 0) ∷ []) refl refl refl refl))
-
--- ---- breaks ----
-
--- a break is asked, and no character can start
-abbrev asking : Transmitter
-asking = withAsked enabled true
-
--- idle at once
-unfoldable pub endsAtOnce : Step
-endsAtOnce = taking pulsedOf writtenOf disabledOf (λ t. pick (eqb (t .phase) 2) (idleOf t) (breakEnded t))
-
--- a character is written in the break
-pub no-endsAtOnce : Breaks endsAtOnce → ⊥
-unfolding endsAtOnce after pulsesIn pulsedOf begunOf writtenOf pick
-no-endsAtOnce h = true≢false (sym (h .high asking once (Write 0 ∷ []) StopBreak false (pulses 1) refl refl refl refl stops refl (omega arith)))
-
--- fifteen pulses of high
-unfoldable pub endsEarly : Step
-endsEarly = taking pulsedOf writtenOf disabledOf (λ t. pick (eqb (t .phase) 2) (withLeft (highAfter t) (record { 0 = 14 })) (breakEnded t))
-
-pub no-endsEarly : Breaks endsEarly → ⊥
-unfolding endsEarly after pulsesIn pulsedOf begunOf heldHigh writtenOf pick
-no-endsEarly h =
-    let u : Standing = record { mr1 = 16; mr2 = 7; sixteen = true; cts = false } in
-    true≢false (sym (h .high asking u (Write 0 ∷ []) StopBreak true (replicate 16 (Pulse u)) refl refl refl refl stops refl (omega arith)))
-
--- ended by a write
-unfoldable pub writeEnds : Step
-writeEnds = taking pulsedOf (λ t byte. pick (eqb (t .phase) 2) (highAfter (writtenOf t byte)) (writtenOf t byte)) disabledOf breakEnded
-
-pub no-writeEnds : Breaks writeEnds → ⊥
-unfolding writeEnds after pulsedOf begunOf pick
-no-writeEnds h = true≢false (h .low asking once (Write 0 ∷ []) refl refl refl refl)
-
--- ended by a pulse on which a character could start
-unfoldable pub characterEnds : Step
-characterEnds = pulsing (λ t s. pick (eqb (t .phase) 2 && canStart t s) (highAfter t) (pulsedOf t s))
-
-pub no-characterEnds : Breaks characterEnds → ⊥
-unfolding characterEnds after pulsedOf begunOf writtenOf pick
-no-characterEnds h = true≢false (h .low asking once (Write 0 ∷ pulses 1) refl refl refl refl)
 
 -- ---- a count that runs on ----
 
@@ -257,22 +232,27 @@ stopped = record { mr1 = 16; mr2 = 23; sixteen = false; cts = true }
 
 pub no-ignoresCts : Sends ignoresCts → ⊥
 unfolding ignoresCts pulsedOf begunOf takenOf pick
-no-ignoresCts h =
-    let z : false ≡ true = h .rests (ready 0) stopped refl refl refl .high in
-    true≢false (sym z)
+no-ignoresCts h = true≢false (sym (ap (λ (t : Transmitter). t .txd) (h .rests (ready 0) stopped refl refl refl)))
 
--- ---- a write while disabled, and a disable that forgets ----
+-- ---- one pulse with nothing to send, and then no more ----
 
-unfoldable pub writesAlways : Step
-writesAlways = taking pulsedOf (λ t byte. withHolding t true byte) disabledOf breakEnded
+-- dead from there on, with TxD high
+unfoldable pub dies : Step
+dies = pulsing (λ t s. pick (free t && (not (canStart t s) && not (t .asked))) (withPhase t 2 true) (pulsedOf t s))
 
-pub no-writesAlways : Obeys writesAlways → ⊥
-unfolding writesAlways
-no-writesAlways h = true≢false (ap (λ (t : Transmitter). t .full) (h .ignores freshTransmitter 0 refl))
+pub no-dies : Sends dies → ⊥
+unfolding dies pick
+no-dies h =
+    let z : _≡_ {A = ℕ} 2 0 = ap (λ (t : Transmitter). t .phase) (h .rests enabled once refl refl refl) in
+    omega arith
 
-unfoldable pub disableForgets : Step
-disableForgets = taking pulsedOf writtenOf (λ t. withHolding (disabledOf t) false 0) breakEnded
+-- ---- a break asked in a frame, and forgotten ----
 
-pub no-disableForgets : Obeys disableForgets → ⊥
-unfolding disableForgets breakEnded pick
-no-disableForgets h = true≢false (sym (ap (λ (t : Transmitter). t .full) (h .disables (ready 0))))
+unfoldable pub forgetsBreak : Step
+forgetsBreak = pulsing (λ t s. pick (eqb (t .phase) 1) (withAsked (pulsedOf t s) false) (pulsedOf t s))
+
+pub no-forgetsBreak : Sends forgetsBreak → ⊥
+unfolding forgetsBreak after pulsesIn pulsedOf sentOnOf begunOf takenOf pick frame levels spread beforeStop bitsOf parityBits formatOf stopBitsOf
+no-forgetsBreak h =
+    true≢false
+    (sym (h .inside (withAsked (ready 0) true) once [] once (record { idle = refl; enabled = refl; full = refl; clear = refl }) refl (omega arith) .asked))

@@ -2,7 +2,7 @@
 -- proved false of others: a character that can start does start, and TxD then has the levels of its frame, one a pulse. Assumes nothing.
 use Prim.Native.Nat.{ℕ, suc, _-_, _<_}
 use mathlib.Core.Path.{_≡_}
-use mathlib.Core.Bool.{Bool, true, false, _&&_}
+use mathlib.Core.Bool.{Bool, true, false, not, _&&_}
 use mathlib.Core.List.{List, [], _∷_, _++_}
 use lib.Dec.{eqb, ltb, leb}
 use lib.ListN.{length, getD, replicate}
@@ -13,7 +13,8 @@ use Rattle.transmitter.specs.declared.sending.Standing.{Standing}
 use Rattle.transmitter.specs.declared.state.Transmitter.{Transmitter}
 use Rattle.transmitter.specs.declared.transmitter.Input.{Input}
 use Rattle.transmitter.specs.declared.transmitter.Input.the-variants.{Nothing, Pulse, Write, Enable, Disable, StartBreak, StopBreak, Reset, ChipReset}
-use Rattle.transmitter.specs.Sending.{clearToSend, canStart}
+use Rattle.transmitter.specs.State.{withHolding}
+use Rattle.transmitter.specs.Sending.{clearToSend, canStart, idleOf}
 use Rattle.transmitter.specs.Status.{shifterEmpty}
 
 -- ---- lists of inputs ----
@@ -66,9 +67,11 @@ noReset (x ∷ xs) = keeps x && noReset xs
 
 -- ---- a character that can start ----
 
--- "idle, .. at the earliest on the pulse after a frame's last": nothing is being sent and no high bit is owed, or all of a frame has come
+-- "idle, .. at the earliest on the pulse after a frame's last": all of a frame has come; or nothing is being sent, no break either, and no
+-- high bit is owed
 abbrev pub free : Transmitter → Bool
-free t = pick (eqb (t .phase) 1) (leb (t .shifter .length .0) (t .shifter .sent .0)) (eqb (t .phase) 0)
+free t =
+    pick (eqb (t .phase) 1) (leb (t .shifter .length .0) (t .shifter .sent .0)) (not (eqb (t .phase) 2) && not (eqb (t .phase) 3))
 
 -- "A character starts on a pulse if enabled, idle, the holding place is full and CTS (if chosen; IP0 for A, IP1 for B) is low"
 pub record Startable (t : Transmitter) (s : Standing) : Type 0 where
@@ -83,12 +86,12 @@ frameAt s byte = frame (s .sixteen) (formatOf (s .mr1)) (stopCodeOf (s .mr2)) by
 
 -- ---- the statements ----
 
--- A pulse on which nothing starts: TxD is high, and the holding place and the shifter are as they were, the shifter empty.
-pub record Rests (t u : Transmitter) : Type 0 where
-  pub high : u .txd ≡ true
-  pub empty : shifterEmpty u ≡ true
+-- what a pulse of a frame leaves alone
+pub record Undisturbed (t u : Transmitter) : Type 0 where
+  pub enabled : u .enabled ≡ t .enabled
   pub full : u .full ≡ t .full
   pub holding : u .holding ≡ t .holding
+  pub asked : u .asked ≡ t .asked
 
 -- Once a character has started, whatever else comes but a reset: enable, disable, writes, breaks, CTS, other formats and clocks.
 pub record Sends (step : Step) : Type 0 where
@@ -98,14 +101,17 @@ pub record Sends (step : Step) : Type 0 where
   -- as long as its frame lasts the shifter holds it
   pub holds : (t : Transmitter) (s : Standing) (xs : List Input) → Startable t s → noReset xs ≡ true → pulsesIn xs < length (frameAt s (t .holding))
       → shifterEmpty (after step t (Pulse s ∷ xs)) ≡ false
-  -- it has left the holding place
-  pub leaves : (t : Transmitter) (s : Standing) → Startable t s → step t (Pulse s) .full ≡ false
+  -- at its start it leaves the holding place, and nothing else is disturbed; nor is anything by its other pulses
+  pub leaves : (t : Transmitter) (s : Standing) → Startable t s → Undisturbed (withHolding t false (t .holding)) (step t (Pulse s))
+  pub inside : (t : Transmitter) (s : Standing) (xs : List Input) (u : Standing) → Startable t s → noReset xs ≡ true
+      → suc (pulsesIn xs) < length (frameAt s (t .holding))
+      → Undisturbed (after step t (Pulse s ∷ xs)) (step (after step t (Pulse s ∷ xs)) (Pulse u))
   -- after the frame's last pulse another character may start on the next one, and if none can, the shifter is empty then
   pub over : (t : Transmitter) (s : Standing) (xs : List Input) → Startable t s → noReset xs ≡ true → suc (pulsesIn xs) ≡ length (frameAt s (t .holding))
       → (free (after step t (Pulse s ∷ xs)) ≡ true)
       × ((u : Standing) → canStart (after step t (Pulse s ∷ xs)) u ≡ false → shifterEmpty (step (after step t (Pulse s ∷ xs)) (Pulse u)) ≡ true)
-  -- none starts but one that can
-  pub rests : (t : Transmitter) (s : Standing) → free t ≡ true → canStart t s ≡ false → t .asked ≡ false → Rests t (step t (Pulse s))
+  -- none starts but one that can: the transmitter is idle then, TxD high, and as it was in all else
+  pub rests : (t : Transmitter) (s : Standing) → free t ≡ true → canStart t s ≡ false → t .asked ≡ false → step t (Pulse s) ≡ idleOf t
 
 -- Bytes, each written while the frame before it is sent, after so many more of its pulses than the first.
 abbrev pub inTime : ℕ → List (ℕ × ℕ) → Bool

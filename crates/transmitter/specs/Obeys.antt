@@ -7,7 +7,7 @@ use Rattle.transmitter.specs.declared.state.Transmitter.{Transmitter}
 use Rattle.transmitter.specs.declared.transmitter.Input.the-variants.{Nothing, Write, Enable, Disable, StartBreak, StopBreak, Reset, ChipReset}
 use Rattle.transmitter.specs.State.{freshTransmitter, withEnabled, withHolding, withAsked}
 use Rattle.transmitter.specs.Status.{shifterEmpty}
-use Rattle.transmitter.specs.Frames.{Step}
+use Rattle.transmitter.specs.Frames.{Step, free}
 
 -- "3 reset transmitter (disabled, all dropped, TxD high)"
 pub record AllDropped (t : Transmitter) : Type 0 where
@@ -31,5 +31,9 @@ pub record Obeys (step : Step) : Type 0 where
   -- "one not yet begun is just dropped"
   pub drops : (t : Transmitter) → eqb (t .phase) 2 ≡ false → step t StopBreak ≡ withAsked t false
   pub resets : (t : Transmitter) → AllDropped (step t Reset)
+  -- the next start may come on the very next pulse, but for the high bit after a break, of which as much is owed as after a stop
+  pub frees : (t : Transmitter) → eqb (step t StopBreak .phase) 3 ≡ false → free (step t Reset) ≡ true
+  pub owes : (t : Transmitter) → eqb (step t StopBreak .phase) 3 ≡ true
+      → (eqb (step t Reset .phase) 3 ≡ true) × (step t Reset .left ≡ step t StopBreak .left)
   pub resetsChip : (t : Transmitter) → step t ChipReset ≡ freshTransmitter
   pub nothing : (t : Transmitter) → step t Nothing ≡ t

@@ -21,6 +21,7 @@ pub fn write(transmitter: Transmitter, byte: u8) -> Transmitter
     t
 }
 
+// "01 enable": what is held may start on the next pulse.
 pub fn enable(transmitter: Transmitter) -> Transmitter
     ensures { λ r. ⌜ r ≡ enabledOf transmitter ⌝ }
 {
@@ -29,7 +30,7 @@ pub fn enable(transmitter: Transmitter) -> Transmitter
     t
 }
 
-// "TxD is high at once, and for one bit"
+// "TxD is high at once, and for one bit": at 16X the 16th pulse completes it, after 15 more.
 fn high_after(transmitter: Transmitter) -> Transmitter
     ensures { λ r. ⌜ r ≡ highAfter transmitter ⌝ }
 {
@@ -62,7 +63,8 @@ pub fn disable(transmitter: Transmitter) -> Transmitter
     t
 }
 
-// "disabled, all dropped, TxD high": what is held is dropped, and the high bit after a break stays owed.
+// "disabled, all dropped, TxD high": what is held is dropped. The high bit after a break is not held but
+// owed, and reset is among the three that owe it: "stop, disable or reset ends it".
 fn drop_all(transmitter: Transmitter) -> Transmitter
     ensures { λ r. ⌜ r ≡ droppedOf transmitter ⌝ }
 {

@@ -71,8 +71,8 @@ fn begin_break(transmitter: Transmitter) -> Transmitter
     t
 }
 
-// Nothing to send: the line is high.
-fn rest(transmitter: Transmitter) -> Transmitter
+// Idle: TxD is high, as it is in a stop.
+fn go_idle(transmitter: Transmitter) -> Transmitter
     ensures { λ r. ⌜ r ≡ idleOf transmitter ⌝ }
 {
     let mut t = transmitter;
@@ -92,10 +92,10 @@ fn begin(transmitter: Transmitter, standing: Standing) -> Transmitter
     if transmitter.asked {
         return begin_break(transmitter);
     }
-    rest(transmitter)
+    go_idle(transmitter)
 }
 
-// The bit of a frame that a pulse falls into, both counted from 0.
+// The bit of a frame that a pulse falls into, both counted from 0: 16 pulses a bit, or 1.
 fn bit_of_pulse(sixteen: bool, pulse: Pulses) -> Bits
     ensures { λ r. ⌜ r ≡ bitOfPulse sixteen pulse ⌝ }
 {
@@ -131,17 +131,18 @@ fn hold_high(transmitter: Transmitter, standing: Standing) -> Transmitter
 {
     if standing.sixteen {
         if transmitter.left.0 == 0 {
-            return rest(transmitter);
+            return go_idle(transmitter);
         }
         let left = Pulses(transmitter.left.0 - 1);
         let mut t = transmitter;
         t.left = left;
         return t;
     }
-    rest(transmitter)
+    go_idle(transmitter)
 }
 
-// One pulse of the transmitter's clock.
+// One pulse of the transmitter's clock. In a break it does nothing: "stop, disable or reset ends it,
+// nothing else".
 pub fn pulse(transmitter: Transmitter, standing: Standing) -> Transmitter
     ensures { λ r. ⌜ r ≡ pulsedOf transmitter standing ⌝ }
 {

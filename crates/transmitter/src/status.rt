@@ -11,8 +11,8 @@ pub struct TransmitterStatus {
     pub empty: bool,
 }
 
-// Whether the shifter holds no character: a frame's last pulse is its own for a whole pulse, and on
-// the one after it the shifter is empty, or holds the next character.
+// Whether the shifter holds no character. Source 004 sets TxEMT after the last stop bit: a frame's last
+// pulse lasts its time, and on the one after it the shifter is empty, or holds the next character.
 fn shifter_empty(transmitter: Transmitter) -> bool
     ensures { λ r. ⌜ r ≡ shifterEmpty transmitter ⌝ }
 {

@@ -28,6 +28,7 @@ pub enum Input {
     ChipReset,
 }
 
+// One input: each is a rule of its own, in every state.
 pub fn step_transmitter(transmitter: Transmitter, input: Input) -> Transmitter
     ensures { λ r. ⌜ r ≡ afterInput transmitter input ⌝ }
 {

@@ -10,7 +10,7 @@ use Rattle.frame.specs.declared.counts.Pulses.{Pulses}
 use Rattle.frame.specs.declared.counts.Ticks.{Ticks}
 use Rattle.frame.specs.Pick.{pick}
 use Rattle.frame.proofs.Laws.Pick.{pick-all}
-use Rattle.clocks.specs.declared.channel.Beat.{Beat}
+use Rattle.clocks.specs.declared.channel.ClockEvent.{ClockEvent}
 use Rattle.clocks.specs.declared.channel.Phases.{Phases}
 use Rattle.clocks.specs.declared.divider.Divided.{Divided}
 use Rattle.clocks.specs.declared.divider.Sixteenth.{Sixteenth}
@@ -18,7 +18,7 @@ use Rattle.clocks.specs.declared.timer.Counted.{Counted}
 use Rattle.clocks.specs.declared.timer.Timer.{Timer}
 use Rattle.clocks.specs.Divider.{dividedOf, sixteenthOf}
 use Rattle.clocks.specs.Rates.{periodOf}
-use Rattle.clocks.specs.Channel.{restarted, restartedOnChange, isSixteen, tickedOf, sideOf, transmitterBit, clockedOf}
+use Rattle.clocks.specs.Channel.{restarted, restartedOnChange, isSixteen, tickedOf, sideOf, transmitter1x, clockedOf}
 use Rattle.clocks.specs.Timer.{freshTimer, modeOf, isTimer, countedDown, counterPulsed, timerPulsed, pulsedBy, tickedBy, edgedBy, transmittedBy, startedOf, stoppedOf, modeChanged}
 use Rattle.clocks.specs.Sound.{phasesInRange, timerInRange, KeepsPhases, KeepsTimer}
 use Rattle.clocks.proofs.Laws.Rates.{period-between}
@@ -45,7 +45,7 @@ sixteenth-most phase =
     (λ (e : ltb (phase .0 + 1) 16 ≡ true). omega (arith, ltb-true (phase .0 + 1) 16 e))
     (omega arith)
 
-side-most : (phase : Ticks) (second : Bool) (code : ℕ) (b : Beat) (edge : Bool) → phase .0 ≤ 4607 → sideOf phase second code b edge .phase .0 ≤ 4607
+side-most : (phase : Ticks) (second : Bool) (code : ℕ) (b : ClockEvent) (edge : Bool) → phase .0 ≤ 4607 → sideOf phase second code b edge .phase .0 ≤ 4607
 unfolding sideOf tickedOf
 side-most phase second code b edge h =
     pick-known Most (ltb code 13) _ _
@@ -57,8 +57,8 @@ side-most phase second code b edge h =
     Most : Divided → Type 0
     Most d = d .phase .0 ≤ 4607
 
-bit-most : (phase : Pulses) (code : ℕ) (pulse : Bool) → phase .0 ≤ 15 → transmitterBit phase code pulse .phase .0 ≤ 15
-unfolding transmitterBit
+bit-most : (phase : Pulses) (code : ℕ) (pulse : Bool) → phase .0 ≤ 15 → transmitter1x phase code pulse .phase .0 ≤ 15
+unfolding transmitter1x
 bit-most phase code pulse h =
     pick-all Most pulse _ _ (pick-all Most (isSixteen code) _ _ (sixteenth-most phase) h) h
   where

@@ -10,13 +10,13 @@ side-requires c κs = search needs
 side-requires-2 : tie.Need-side-requires-2
 side-requires-2 c κs = search needs
 
-transmitter-bit-requires : tie.Need-transmitter-bit-requires
-transmitter-bit-requires c κs = search needs
+transmitter-1x-requires : tie.Need-transmitter-1x-requires
+transmitter-1x-requires c κs = search needs
 
 returns : tie.Need-returns
 unfolding clockedOf
-returns c = simp (c .before .before .before .transmitter-bit .ensures, c .before .before .before .before .side2 .ensures, c .before .before .before .before .before .side .ensures)
+returns c = simp (c .before .before .before .transmitter-1x .ensures, c .before .before .before .before .side2 .ensures, c .before .before .before .before .before .side .ensures)
 
 pub clock-channel-spec : {M : Type 1} → statement M
 clock-channel-spec =
-    tie.close (tie.spec side-requires side-requires-2 transmitter-bit-requires returns)
+    tie.close (tie.spec side-requires side-requires-2 transmitter-1x-requires returns)

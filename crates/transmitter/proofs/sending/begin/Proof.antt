@@ -22,12 +22,12 @@ returns-2 : tie.Need-returns-2
 unfolding begunOf
 returns-2 c = simp (c .begin-break .ensures, ← c .before .before .before .can-start .ensures) (search steps)
 
-rest-requires : tie.Need-rest-requires
-rest-requires c κs = search needs
+go-idle-requires : tie.Need-go-idle-requires
+go-idle-requires c κs = search needs
 
 returns-3 : tie.Need-returns-3
 unfolding begunOf
-returns-3 c = simp (c .rest .ensures, ← c .before .before .before .can-start .ensures) (search steps)
+returns-3 c = simp (c .go-idle .ensures, ← c .before .before .before .can-start .ensures) (search steps)
 
 pub begin-spec : {M : Type 1} → statement M
 begin-spec =
@@ -38,5 +38,5 @@ begin-spec =
     returns
     begin-break-requires
     returns-2
-    rest-requires
+    go-idle-requires
     returns-3)

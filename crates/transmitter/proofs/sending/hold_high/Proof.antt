@@ -5,12 +5,12 @@ use Rattle.transmitter.specs.Sending.{heldHigh}
 use Rattle.transmitter.proofs.sending.hold_high.Statement.{statement}
 use Rattle.transmitter.proofs.sending.hold_high.Tie as tie
 
-rest-requires : tie.Need-rest-requires
-rest-requires c κs = search needs
+go-idle-requires : tie.Need-go-idle-requires
+go-idle-requires c κs = search needs
 
 returns : tie.Need-returns
 unfolding heldHigh
-returns c = simp (c .rest .ensures) (search steps)
+returns c = simp (c .go-idle .ensures) (search steps)
 
 sub-t7 : tie.Need-sub-t7
 sub-t7 c = search needs
@@ -19,13 +19,13 @@ returns-2 : tie.Need-returns-2
 unfolding heldHigh
 returns-2 c = search steps
 
-rest-requires-2 : tie.Need-rest-requires-2
-rest-requires-2 c κs = search needs
+go-idle-requires-2 : tie.Need-go-idle-requires-2
+go-idle-requires-2 c κs = search needs
 
 returns-3 : tie.Need-returns-3
 unfolding heldHigh
-returns-3 c = simp (c .rest2 .ensures) (search steps)
+returns-3 c = simp (c .go-idle2 .ensures) (search steps)
 
 pub hold-high-spec : {M : Type 1} → statement M
 hold-high-spec =
-    tie.close (tie.spec rest-requires returns sub-t7 returns-2 rest-requires-2 returns-3)
+    tie.close (tie.spec go-idle-requires returns sub-t7 returns-2 go-idle-requires-2 returns-3)

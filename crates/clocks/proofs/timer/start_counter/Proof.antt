@@ -1,9 +1,9 @@
--- `start_timer` meets its contract: each way through the tests is the definition's, with the callee's answer. Assumes nothing.
+-- `start_counter` meets its contract: each way through the tests is the definition's, with the callee's answer. Assumes nothing.
 use borrow.Author.Needs.{needs}
 use Rattle.frame.proofs.Laws.{steps}
 use Rattle.clocks.specs.Timer.{startedOf}
-use Rattle.clocks.proofs.timer.start_timer.Statement.{statement}
-use Rattle.clocks.proofs.timer.start_timer.Tie as tie
+use Rattle.clocks.proofs.timer.start_counter.Statement.{statement}
+use Rattle.clocks.proofs.timer.start_counter.Tie as tie
 
 is-timer-requires : tie.Need-is-timer-requires
 is-timer-requires c κs = search needs
@@ -16,5 +16,5 @@ returns-2 : tie.Need-returns-2
 unfolding startedOf
 returns-2 c = simp (← c .before .is-timer .ensures) (search steps)
 
-pub start-timer-spec : {M : Type 1} → statement M
-start-timer-spec = tie.close (tie.spec is-timer-requires returns returns-2)
+pub start-counter-spec : {M : Type 1} → statement M
+start-counter-spec = tie.close (tie.spec is-timer-requires returns returns-2)

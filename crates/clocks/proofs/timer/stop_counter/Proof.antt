@@ -1,9 +1,9 @@
--- `stop_timer` meets its contract: each way through the tests is the definition's, with the callee's answer. Assumes nothing.
+-- `stop_counter` meets its contract: each way through the tests is the definition's, with the callee's answer. Assumes nothing.
 use borrow.Author.Needs.{needs}
 use Rattle.frame.proofs.Laws.{steps}
 use Rattle.clocks.specs.Timer.{stoppedOf}
-use Rattle.clocks.proofs.timer.stop_timer.Statement.{statement}
-use Rattle.clocks.proofs.timer.stop_timer.Tie as tie
+use Rattle.clocks.proofs.timer.stop_counter.Statement.{statement}
+use Rattle.clocks.proofs.timer.stop_counter.Tie as tie
 
 is-timer-requires : tie.Need-is-timer-requires
 is-timer-requires c κs = search needs
@@ -16,5 +16,5 @@ returns-2 : tie.Need-returns-2
 unfolding stoppedOf
 returns-2 c = simp (← c .before .is-timer .ensures) (search steps)
 
-pub stop-timer-spec : {M : Type 1} → statement M
-stop-timer-spec = tie.close (tie.spec is-timer-requires returns returns-2)
+pub stop-counter-spec : {M : Type 1} → statement M
+stop-counter-spec = tie.close (tie.spec is-timer-requires returns returns-2)
