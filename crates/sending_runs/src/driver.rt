@@ -1,9 +1,9 @@
 // The transmitter and the clocks that are driven, the numbers that choose, and the sums over what
 // they show.
 use clocks::Phases;
-use clocks::Timer;
-use clocks::mode_of;
 use draws::weighed;
+use timer::Timer;
+use timer::mode_of;
 use transmitter::Transmitter;
 use transmitter::transmitter_status;
 

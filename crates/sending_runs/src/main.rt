@@ -58,7 +58,7 @@ fn run(seed: u64) -> Driver {
     let mut d = Driver {
         transmitter: transmitter::fresh_transmitter(),
         phases: clocks::restart(),
-        timer: clocks::fresh_timer(),
+        timer: timer::fresh_timer(),
         mr1: 0,
         mr2: 0,
         csr: 0,

@@ -1,0 +1,2 @@
+-- The laws of the counter/timer. Assumes nothing.
+pub mod Ranges

@@ -1,0 +1,6 @@
+-- The laws that the crates above cite, and the theorems.
+pub mod Laws
+pub mod Counts
+pub mod Sources
+pub mod Wrong
+pub mod Examples
