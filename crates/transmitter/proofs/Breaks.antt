@@ -21,7 +21,7 @@ use Rattle.transmitter.specs.Transmitter.{afterInput}
 use Rattle.transmitter.specs.Frames.{after, pulsesIn, free}
 use Rattle.transmitter.specs.Breaks.{unended, clockedAt, allAt, Ends, Breaks, EachPulse}
 use Rattle.transmitter.specs.Breaks.Ends.{stops, disables, resets}
-use Rattle.transmitter.proofs.Laws.Free.{none-begins, after-append}
+use Rattle.transmitter.proofs.Laws.Free.{no-test, none-begins, after-append}
 
 -- ---- while it is sent ----
 
@@ -105,13 +105,8 @@ module _ (sixteen : Bool) where
   asked-owing n t h = pick-all (Owing sixteen n) (eqb (t .phase) 2) _ _ h (record { phase = h .phase; left = h .left; high = h .high })
 
 pulse-clock : (sixteen : Bool) (s : Standing) → clockedAt sixteen (Pulse s) ≡ true → s .sixteen ≡ sixteen
-unfolding pick
 pulse-clock true s k = k
-pulse-clock false s k = go (s .sixteen) k
-  where
-    go : (b : Bool) → pick b false true ≡ true → b ≡ false
-    go true e = sym e
-    go false e = refl
+pulse-clock false s k = no-test (s .sixteen) k
 
 pulsed-owing : (sixteen : Bool) (n : ℕ) (t : Transmitter) (s : Standing) → suc n ≤ pick sixteen 16 1 → s .sixteen ≡ sixteen
     → Owing sixteen (suc n) t → Owing sixteen n (afterInput t (Pulse s))

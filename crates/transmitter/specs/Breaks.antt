@@ -3,8 +3,8 @@
 -- nothing.
 use Prim.Native.Nat.{suc, _-_, _<_}
 use mathlib.Core.Path.{_≡_}
-use mathlib.Core.Bool.{Bool, true, false, _&&_}
-use mathlib.Core.List.{List, [], _∷_, _++_}
+use mathlib.Core.Bool.{Bool, true, false, not}
+use mathlib.Core.List.{List, _∷_, _++_}
 use lib.Dec.{eqb}
 use Rattle.frame.specs.Pick.{pick}
 use Rattle.transmitter.specs.declared.sending.Standing.{Standing}
@@ -14,7 +14,7 @@ use Rattle.transmitter.specs.declared.transmitter.Input.the-variants.{No
 use Rattle.transmitter.specs.State.{withLeft, withAsked}
 use Rattle.transmitter.specs.Sending.{canStart, breakBegun, idleOf}
 use Rattle.transmitter.specs.Commands.{highAfter}
-use Rattle.transmitter.specs.Frames.{Step, after, pulsesIn, free}
+use Rattle.transmitter.specs.Frames.{Step, after, pulsesIn, allOf, free}
 
 -- any input but a stop break, a disable or a reset: "stop, disable or reset ends it, nothing else"
 abbrev pub leavesBreak : Input → Bool
@@ -29,14 +29,13 @@ leavesBreak Reset = false
 leavesBreak ChipReset = false
 
 abbrev pub unended : List Input → Bool
-unended [] = true
-unended (x ∷ xs) = leavesBreak x && unended xs
+unended xs = allOf leavesBreak xs
 
 -- pulses of this clock, and anything else but a chip reset
 abbrev pub clockedAt : Bool → Input → Bool
 clockedAt sixteen Nothing = true
 clockedAt true (Pulse s) = s .sixteen
-clockedAt false (Pulse s) = pick (s .sixteen) false true
+clockedAt false (Pulse s) = not (s .sixteen)
 clockedAt sixteen (Write byte) = true
 clockedAt sixteen Enable = true
 clockedAt sixteen Disable = true
@@ -46,8 +45,7 @@ clockedAt sixteen Reset = true
 clockedAt sixteen ChipReset = false
 
 abbrev pub allAt : Bool → List Input → Bool
-allAt sixteen [] = true
-allAt sixteen (x ∷ xs) = clockedAt sixteen x && allAt sixteen xs
+allAt sixteen xs = allOf (clockedAt sixteen) xs
 
 -- the inputs that end a break and are no chip reset
 pub data Ends : Input → Type 0 where

@@ -49,6 +49,11 @@ unfoldable pub line : Step → Transmitter → List Input → List Bool
 line step t [] = []
 line step t (x ∷ xs) = pick (isPulse x) (step t x .txd ∷ line step (step t x) xs) (line step (step t x) xs)
 
+-- all of them are of a kind
+abbrev pub allOf : (Input → Bool) → List Input → Bool
+allOf is [] = true
+allOf is (x ∷ xs) = is x && allOf is xs
+
 -- any input but a transmitter or chip reset
 abbrev pub keeps : Input → Bool
 keeps Nothing = true
@@ -62,8 +67,7 @@ keeps Reset = false
 keeps ChipReset = false
 
 abbrev pub noReset : List Input → Bool
-noReset [] = true
-noReset (x ∷ xs) = keeps x && noReset xs
+noReset xs = allOf keeps xs
 
 -- ---- a character that can start ----
 

@@ -15,7 +15,7 @@ use Rattle.transmitter.specs.Sending.{canStart, startedOf, breakBegun, i
 use Rattle.transmitter.specs.Transmitter.{afterInput}
 use Rattle.transmitter.specs.Frames.{Step, after, free}
 
-no-test : (x : Bool) → not x ≡ true → x ≡ false
+pub no-test : (x : Bool) → not x ≡ true → x ≡ false
 no-test true e = sym e
 no-test false e = refl
 
