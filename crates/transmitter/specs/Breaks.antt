@@ -11,7 +11,7 @@ use Rattle.transmitter.specs.declared.sending.Standing.{Standing}
 use Rattle.transmitter.specs.declared.state.Transmitter.{Transmitter}
 use Rattle.transmitter.specs.declared.transmitter.Input.{Input}
 use Rattle.transmitter.specs.declared.transmitter.Input.the-variants.{Nothing, Pulse, Write, Enable, Disable, StartBreak, StopBreak, Reset, ChipReset}
-use Rattle.transmitter.specs.State.{withLeft, withAsked}
+use Rattle.transmitter.specs.State.{inBreak, afterBreak, withLeft, withAsked}
 use Rattle.transmitter.specs.Sending.{canStart, breakBegun, idleOf}
 use Rattle.transmitter.specs.Commands.{highAfter}
 use Rattle.transmitter.specs.Frames.{Step, after, pulsesIn, allOf, free}
@@ -73,11 +73,11 @@ pub record Breaks (step : Step) : Type 0 where
 -- What each pulse and the end do, and that they do no more: what is held, and the enable, stay.
 pub record EachPulse (step : Step) : Type 0 where
   pub begins : (t : Transmitter) (s : Standing) → free t ≡ true → canStart t s ≡ false → t .asked ≡ true → step t (Pulse s) ≡ breakBegun t
-  pub lasts : (t : Transmitter) (s : Standing) → eqb (t .phase) 2 ≡ true → step t (Pulse s) ≡ t
-  pub ends : (t : Transmitter) → eqb (t .phase) 2 ≡ true → step t StopBreak ≡ highAfter (withAsked t false)
+  pub lasts : (t : Transmitter) (s : Standing) → eqb (t .phase) inBreak ≡ true → step t (Pulse s) ≡ t
+  pub ends : (t : Transmitter) → eqb (t .phase) inBreak ≡ true → step t StopBreak ≡ highAfter (withAsked t false)
   -- "hunting and a break's end go by CSR as it stands": at 16X one pulse of the bit has gone, and the last completes it
-  pub counts : (t : Transmitter) (s : Standing) → eqb (t .phase) 3 ≡ true → s .sixteen ≡ true → eqb (t .left .0) 0 ≡ false
+  pub counts : (t : Transmitter) (s : Standing) → eqb (t .phase) afterBreak ≡ true → s .sixteen ≡ true → eqb (t .left .0) 0 ≡ false
       → step t (Pulse s) ≡ withLeft t (record { 0 = t .left .0 - 1 })
-  pub completes : (t : Transmitter) (s : Standing) → eqb (t .phase) 3 ≡ true → s .sixteen ≡ true → eqb (t .left .0) 0 ≡ true → step t (Pulse s) ≡ idleOf t
+  pub completes : (t : Transmitter) (s : Standing) → eqb (t .phase) afterBreak ≡ true → s .sixteen ≡ true → eqb (t .left .0) 0 ≡ true → step t (Pulse s) ≡ idleOf t
   -- at 1X this pulse completes it, whatever had gone of it before
-  pub completes1x : (t : Transmitter) (s : Standing) → eqb (t .phase) 3 ≡ true → s .sixteen ≡ false → step t (Pulse s) ≡ idleOf t
+  pub completes1x : (t : Transmitter) (s : Standing) → eqb (t .phase) afterBreak ≡ true → s .sixteen ≡ false → step t (Pulse s) ≡ idleOf t

@@ -4,7 +4,7 @@ use mathlib.Core.Bool.{true, false, _||_}
 use lib.Dec.{eqb}
 use Rattle.frame.specs.Pick.{pick}
 use Rattle.transmitter.specs.declared.state.Transmitter.{Transmitter}
-use Rattle.transmitter.specs.State.{emptyShifter, withEnabled, withHolding, withPhase, withShifter, withLeft, withAsked}
+use Rattle.transmitter.specs.State.{idlePhase, inBreak, afterBreak, emptyShifter, withEnabled, withHolding, withPhase, withShifter, withLeft, withAsked}
 
 -- "A write while disabled is ignored; a second write replaces the first."
 unfoldable pub writtenOf : Transmitter → ℕ → Transmitter
@@ -15,11 +15,11 @@ enabledOf t = withEnabled t true
 
 -- "TxD is high at once, and for one bit": so many pulses still come at 16X before the one that completes it
 abbrev pub highAfter : Transmitter → Transmitter
-highAfter t = withPhase (withLeft t (record { 0 = 15 })) 3 true
+highAfter t = withPhase (withLeft t (record { 0 = 15 })) afterBreak true
 
 -- "stop, disable or reset ends it, nothing else; one not yet begun is just dropped"
 unfoldable pub breakEnded : Transmitter → Transmitter
-breakEnded t = pick (eqb (t .phase) 2) (highAfter (withAsked t false)) (withAsked t false)
+breakEnded t = pick (eqb (t .phase) inBreak) (highAfter (withAsked t false)) (withAsked t false)
 
 -- "Disable lets the shifter finish and keeps the holding place."
 abbrev pub disabledOf : Transmitter → Transmitter
@@ -29,7 +29,7 @@ disabledOf t = withEnabled (breakEnded t) false
 unfoldable pub droppedOf : Transmitter → Transmitter
 droppedOf t =
     withPhase (withShifter (withHolding (withEnabled t false) false 0) emptyShifter)
-    (pick (eqb (t .phase) 3) (t .phase) 0)
+    (pick (eqb (t .phase) afterBreak) (t .phase) idlePhase)
     true
 
 -- "3 reset transmitter"
@@ -38,4 +38,4 @@ resetOf t = droppedOf (breakEnded t)
 
 -- "start break while disabled is ignored"; while one is being sent there is nothing to ask for
 unfoldable pub breakAsked : Transmitter → Transmitter
-breakAsked t = pick (eqb (t .phase) 2) t (withAsked t (t .asked || t .enabled))
+breakAsked t = pick (eqb (t .phase) inBreak) t (withAsked t (t .asked || t .enabled))

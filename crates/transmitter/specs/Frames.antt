@@ -13,7 +13,7 @@ use Rattle.transmitter.specs.declared.sending.Standing.{Standing}
 use Rattle.transmitter.specs.declared.state.Transmitter.{Transmitter}
 use Rattle.transmitter.specs.declared.transmitter.Input.{Input}
 use Rattle.transmitter.specs.declared.transmitter.Input.the-variants.{Nothing, Pulse, Write, Enable, Disable, StartBreak, StopBreak, Reset, ChipReset}
-use Rattle.transmitter.specs.State.{withHolding}
+use Rattle.transmitter.specs.State.{sending, inBreak, afterBreak, withHolding}
 use Rattle.transmitter.specs.Sending.{clearToSend, canStart, idleOf}
 use Rattle.transmitter.specs.Status.{shifterEmpty}
 
@@ -75,7 +75,7 @@ noReset xs = allOf keeps xs
 -- high bit is owed
 abbrev pub free : Transmitter → Bool
 free t =
-    pick (eqb (t .phase) 1) (leb (t .shifter .length .0) (t .shifter .sent .0)) (not (eqb (t .phase) 2) && not (eqb (t .phase) 3))
+    pick (eqb (t .phase) sending) (leb (t .shifter .length .0) (t .shifter .sent .0)) (not (eqb (t .phase) inBreak) && not (eqb (t .phase) afterBreak))
 
 -- "A character starts on a pulse if enabled, idle, the holding place is full and CTS (if chosen; IP0 for A, IP1 for B) is low"
 pub record Startable (t : Transmitter) (s : Standing) : Type 0 where

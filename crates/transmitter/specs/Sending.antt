@@ -10,7 +10,7 @@ use Rattle.frame.specs.Levels.{frameBitsOf, frameLengthOf, levelOf}
 use Rattle.transmitter.specs.declared.sending.Standing.{Standing}
 use Rattle.transmitter.specs.declared.state.Shifter.{Shifter}
 use Rattle.transmitter.specs.declared.state.Transmitter.{Transmitter}
-use Rattle.transmitter.specs.State.{withHolding, withPhase, withShifter, withLeft, withAsked}
+use Rattle.transmitter.specs.State.{idlePhase, sending, inBreak, afterBreak, withHolding, withPhase, withShifter, withLeft, withAsked}
 
 -- "CTS (if chosen; IP0 for A, IP1 for B) is low": MR2 bit 4 chooses it
 abbrev pub clearToSend : Standing → Bool
@@ -32,15 +32,15 @@ takenOf byte s =
 
 -- the character leaves the holding place: "Start bit 0"
 abbrev pub startedOf : Transmitter → Standing → Transmitter
-startedOf t s = withPhase (withShifter (withHolding t false (t .holding)) (takenOf (t .holding) s)) 1 false
+startedOf t s = withPhase (withShifter (withHolding t false (t .holding)) (takenOf (t .holding) s)) sending false
 
 -- "A break begins on a pulse"
 abbrev pub breakBegun : Transmitter → Transmitter
-breakBegun t = withPhase (withAsked t false) 2 false
+breakBegun t = withPhase (withAsked t false) inBreak false
 
 -- nothing to send: the line is high
 abbrev pub idleOf : Transmitter → Transmitter
-idleOf t = withPhase t 0 true
+idleOf t = withPhase t idlePhase true
 
 -- A pulse that finds it idle: "A break begins on a pulse, when idle and no character can start".
 unfoldable pub begunOf : Transmitter → Standing → Transmitter
@@ -68,7 +68,7 @@ heldHigh t s = pick (s .sixteen) (pick (eqb (t .left .0) 0) (idleOf t) (withLeft
 -- One pulse. A phase above 3, which no rule puts there, is idle.
 unfoldable pub pulsedOf : Transmitter → Standing → Transmitter
 pulsedOf t s =
-    pick (eqb (t .phase) 1) (sentOnOf t s)
-    (pick (eqb (t .phase) 2) t
-    (pick (eqb (t .phase) 3) (heldHigh t s)
+    pick (eqb (t .phase) sending) (sentOnOf t s)
+    (pick (eqb (t .phase) inBreak) t
+    (pick (eqb (t .phase) afterBreak) (heldHigh t s)
     (begunOf t s)))

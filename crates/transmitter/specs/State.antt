@@ -5,6 +5,20 @@ use Rattle.frame.specs.declared.counts.Pulses.{Pulses}
 use Rattle.transmitter.specs.declared.state.Shifter.{Shifter}
 use Rattle.transmitter.specs.declared.state.Transmitter.{Transmitter}
 
+-- What the transmitter is doing, its phase: nothing; the shifter holds a character; a break is being sent; the one bit of high after it. Any
+-- other number is idle.
+abbrev pub idlePhase : ℕ
+idlePhase = 0
+
+abbrev pub sending : ℕ
+sending = 1
+
+abbrev pub inBreak : ℕ
+inBreak = 2
+
+abbrev pub afterBreak : ℕ
+afterBreak = 3
+
 -- a shifter that nothing has been put into
 abbrev pub emptyShifter : Shifter
 emptyShifter = record { frame = record { 0 = 0 }; sixteen = false; length = record { 0 = 0 }; sent = record { 0 = 0 } }
@@ -12,7 +26,7 @@ emptyShifter = record { frame = record { 0 = 0 }; sixteen = false; length = reco
 -- "Chip reset: .. both sides disabled, .. holding places, shifters .. empty, TxD high"
 abbrev pub freshTransmitter : Transmitter
 freshTransmitter =
-    record { enabled = false; full = false; holding = 0; phase = 0; shifter = emptyShifter; left = record { 0 = 0 }; asked = false; txd = true }
+    record { enabled = false; full = false; holding = 0; phase = idlePhase; shifter = emptyShifter; left = record { 0 = 0 }; asked = false; txd = true }
 
 -- ---- a transmitter with another part ----
 

@@ -3,11 +3,12 @@ use mathlib.Core.Bool.{Bool, not, _&&_}
 use lib.Dec.{eqb}
 use Rattle.transmitter.specs.declared.state.Transmitter.{Transmitter}
 use Rattle.transmitter.specs.declared.status.TransmitterStatus.{TransmitterStatus}
+use Rattle.transmitter.specs.State.{sending}
 
 -- Whether the shifter holds no character. The one place that says when it empties: not with its frame's last pulse, but on the pulse
 -- after it, when that pulse's time is over (source 004: the bit is set after transmission of the last stop bit).
 abbrev pub shifterEmpty : Transmitter → Bool
-shifterEmpty t = not (eqb (t .phase) 1)
+shifterEmpty t = not (eqb (t .phase) sending)
 
 -- "TxRDY: enabled and holding place empty. TxEMT: enabled, holding place and shifter empty."
 abbrev pub statusOf : Transmitter → TransmitterStatus

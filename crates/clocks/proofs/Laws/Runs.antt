@@ -12,6 +12,7 @@ use borrow.Author.Tests.{lt-ltb, le-ltb, eq-eqb, ne-eqb, le-leb, lt-leb}
 use Rattle.frame.specs.Digits.{bit}
 use Rattle.frame.specs.Pick.{pick}
 use Rattle.frame.proofs.Laws.Pick.{pick-yes, pick-no}
+use Rattle.clocks.specs.Divider.{upTo}
 
 -- where the number after m stands in its run
 pub data Turn (n m : ℕ) : Type 0 where
@@ -35,10 +36,10 @@ turn n m z = go (decLt (m % n + 1) n)
 
 -- a count that goes up to n and starts again at 0, where it pulses
 pub counted-up : {A : Type 0} (f : ℕ → Bool → A) (n m : ℕ) → 0 < n
-    → pick (ltb (m % n + 1) n) (f (m % n + 1) false) (f 0 true) ≡ f (suc m % n) (eqb (suc m % n) 0)
+    → upTo f (m % n) n ≡ f (suc m % n) (eqb (suc m % n) 0)
 counted-up f n m z = go (turn n m z)
   where
-    go : Turn n m → pick (ltb (m % n + 1) n) (f (m % n + 1) false) (f 0 true) ≡ f (suc m % n) (eqb (suc m % n) 0)
+    go : Turn n m → upTo f (m % n) n ≡ f (suc m % n) (eqb (suc m % n) 0)
     go (goes h e d) = rw (e, ne-eqb (m % n + 1) 0 (omega arith)) (pick-yes _ _ _ (lt-ltb (m % n + 1) n h))
     go (ends h e d) = rw e (pick-no _ _ _ (le-ltb (m % n + 1) n (omega arith)))
 

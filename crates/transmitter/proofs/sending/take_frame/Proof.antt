@@ -12,7 +12,7 @@ frame-length-requires c κs = search needs
 
 returns : tie.Need-returns
 unfolding takenOf
-returns c = simp (c .frame-length .ensures, c .before .frame-bits .ensures)
+returns c = cc
 
 pub take-frame-spec : {M : Type 1} → statement M
 take-frame-spec = tie.close (tie.spec frame-bits-requires frame-length-requires returns)
