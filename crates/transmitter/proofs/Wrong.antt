@@ -1,5 +1,5 @@
 -- The statements shut wrong transmitters out. Each takes inputs as `afterInput` does but for one fault, and each is refuted by computing
--- what becomes of a short frame, a pair of them or a break: `Sends` is false of ten, `GoesBackToBack` of two, `KeepsRanges` of
+-- what becomes of a short frame, a pair of them or a break: `Sends` is false of eleven, `GoesBackToBack` of two, `KeepsRanges` of
 -- one. Assumes nothing.
 use Prim.Native.Nat.{ℕ, suc}
 use mathlib.Core.Path.{_≡_, refl, sym, ap}
@@ -256,3 +256,12 @@ unfolding forgetsBreak after pulsesIn pulsedOf sentOnOf begunOf takenOf pick fra
 no-forgetsBreak h =
     true≢false
     (sym (h .inside (withAsked (ready 0) true) once [] once (record { idle = refl; enabled = refl; full = refl; clear = refl }) refl (omega arith) .asked))
+
+-- ---- a character that stays in the holding place, and goes out again ----
+
+unfoldable pub keepsHolding : Step
+keepsHolding = pulsing (λ t s. withHolding (pulsedOf t s) (t .full) (t .holding))
+
+pub no-keepsHolding : Sends keepsHolding → ⊥
+unfolding keepsHolding
+no-keepsHolding h = true≢false (h .leaves (ready 0) once (startable 0) .full)

@@ -1,5 +1,5 @@
 -- The statements on breaks and commands shut wrong transmitters out, each `afterInput` but for one fault: `Breaks` is false of five, `EachPulse`
--- of two, `Obeys` of three. Assumes nothing.
+-- of two, `Obeys` of four. Assumes nothing.
 use mathlib.Core.Path.{refl, sym, ap}
 use mathlib.Core.Bool.{true, false, not, _&&_, true≢false}
 use mathlib.Core.List.{[], _∷_}
@@ -101,6 +101,15 @@ disableForgets = disabling (λ t. withHolding (disabledOf t) false 0)
 pub no-disableForgets : Obeys disableForgets → ⊥
 unfolding disableForgets breakEnded pick
 no-disableForgets h = true≢false (sym (ap (λ (t : Transmitter). t .full) (h .disables (ready 0))))
+
+-- ---- a stop break that leaves what is asked ----
+
+unfoldable pub keepsAsked : Step
+keepsAsked = stopping (λ t. withAsked (breakEnded t) (t .asked))
+
+pub no-keepsAsked : Obeys keepsAsked → ⊥
+unfolding keepsAsked breakEnded pick
+no-keepsAsked h = true≢false (ap (λ (t : Transmitter). t .asked) (h .drops asking refl))
 
 -- ---- a reset that hangs ----
 
