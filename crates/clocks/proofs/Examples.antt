@@ -3,7 +3,7 @@ use Prim.Native.Nat.{ℕ}
 use mathlib.Core.Path.{_≡_, refl}
 use mathlib.Core.Bool.{Bool, true, false}
 use lib.ListN.{replicate}
-use Rattle.frame.specs.Pick.{pick}
+use Rattle.format.specs.Pick.{pick}
 use Rattle.clocks.specs.declared.channel.ClockEvent.{ClockEvent}
 use Rattle.clocks.specs.declared.channel.Clocked.{Clocked}
 use Rattle.clocks.specs.declared.channel.Phases.{Phases}

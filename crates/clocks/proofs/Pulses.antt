@@ -9,11 +9,11 @@ use native.Mathlib.Numerals.{one-add}
 use native.Mathlib.Nat.{zero-add, add-zero, mul-mod-left, mul-div-cancel, zero-div, zero-mod, div-add-mod'}
 use lib.Dec.{eqb}
 use borrow.Author.Tests.{eqb-true, lt-ltb, le-ltb, ne-eqb}
-use Rattle.frame.specs.declared.counts.Pulses.{Pulses}
-use Rattle.frame.specs.declared.counts.Ticks.{Ticks}
-use Rattle.frame.specs.Digits.{bit}
-use Rattle.frame.specs.Pick.{pick}
-use Rattle.frame.proofs.Laws.Pick.{pick-yes}
+use Rattle.format.specs.declared.counts.Pulses.{Pulses}
+use Rattle.format.specs.declared.counts.Ticks.{Ticks}
+use Rattle.format.specs.Digits.{bit}
+use Rattle.format.specs.Pick.{pick}
+use Rattle.format.proofs.Laws.Pick.{pick-yes}
 use Rattle.clocks.specs.declared.channel.ClockEvent.{ClockEvent}
 use Rattle.clocks.specs.declared.channel.Clocked.{Clocked}
 use Rattle.clocks.specs.declared.channel.Phases.{Phases}

@@ -2,9 +2,9 @@
 use Prim.Native.Nat.{ℕ, _+_}
 use mathlib.Core.Bool.{Bool, true, false}
 use lib.Dec.{ltb}
-use Rattle.frame.specs.declared.counts.Pulses.{Pulses}
-use Rattle.frame.specs.declared.counts.Ticks.{Ticks}
-use Rattle.frame.specs.Pick.{pick}
+use Rattle.format.specs.declared.counts.Pulses.{Pulses}
+use Rattle.format.specs.declared.counts.Ticks.{Ticks}
+use Rattle.format.specs.Pick.{pick}
 use Rattle.clocks.specs.declared.divider.Divided.{Divided}
 use Rattle.clocks.specs.declared.divider.Sixteenth.{Sixteenth}
 

@@ -5,8 +5,8 @@ use mathlib.Core.Path.{_≡_}
 use mathlib.Core.Bool.{Bool, true, false, _&&_}
 use mathlib.Core.List.{List, [], _∷_}
 use lib.Dec.{eqb}
-use Rattle.frame.specs.declared.counts.Ticks.{Ticks}
-use Rattle.frame.specs.Digits.{bit}
+use Rattle.format.specs.declared.counts.Ticks.{Ticks}
+use Rattle.format.specs.Digits.{bit}
 use Rattle.clocks.specs.declared.channel.ClockEvent.{ClockEvent}
 use Rattle.clocks.specs.declared.channel.Clocked.{Clocked}
 use Rattle.clocks.specs.declared.channel.Phases.{Phases}

@@ -4,8 +4,8 @@ use crate::divider::Sixteenth;
 use crate::divider::divide;
 use crate::divider::divide_by_16;
 use crate::rates::period_of;
-use frame::Pulses;
-use frame::Ticks;
+use format::Pulses;
+use format::Ticks;
 ghost use mathlib.Core.Path.{_≡_};
 ghost use Rattle.clocks.specs.Channel.{restarted, restartedOnChange, isSixteen, tickedOf, sideOf, transmitter1x, clockedOf};
 

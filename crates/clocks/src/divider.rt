@@ -1,6 +1,6 @@
 // Dividers, which count up from 0: of crystal ticks, and of pulses into whole bits.
-use frame::Pulses;
-use frame::Ticks;
+use format::Pulses;
+use format::Ticks;
 ghost use mathlib.Core.Path.{_≡_};
 ghost use Rattle.clocks.specs.Divider.{dividedOf, sixteenthOf};
 

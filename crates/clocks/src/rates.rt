@@ -1,5 +1,5 @@
 // "Ticks per 16X pulse, codes 0 to 12"
-use frame::Ticks;
+use format::Ticks;
 ghost use mathlib.Core.Path.{_≡_};
 ghost use Rattle.clocks.specs.Rates.{periodOf};
 

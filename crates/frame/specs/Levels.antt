@@ -4,14 +4,14 @@ use mathlib.Core.Bool.{Bool, true, false}
 use mathlib.Core.List.{List, [], _∷_, _++_}
 use lib.Dec.{eqb, ltb}
 use lib.ListN.{length, replicate}
-use Rattle.frame.specs.declared.counts.Bits.{Bits}
-use Rattle.frame.specs.declared.counts.Pulses.{Pulses}
-use Rattle.frame.specs.declared.format.Format.{Format}
+use Rattle.format.specs.declared.counts.Bits.{Bits}
+use Rattle.format.specs.declared.counts.Pulses.{Pulses}
+use Rattle.format.specs.declared.format.Format.{Format}
 use Rattle.frame.specs.declared.levels.FrameBits.{FrameBits}
-use Rattle.frame.specs.Pick.{pick}
-use Rattle.frame.specs.Digits.{valueOf}
-use Rattle.frame.specs.Parity.{dataBits, hasParityOf, parityBits}
-use Rattle.frame.specs.Stop.{stopLengthOf, stopBitsOf}
+use Rattle.format.specs.Pick.{pick}
+use Rattle.format.specs.Digits.{valueOf}
+use Rattle.format.specs.Parity.{dataBits, hasParityOf, parityBits}
+use Rattle.format.specs.Stop.{stopLengthOf, stopBitsOf}
 
 -- "Start bit 0, data lowest bit first, parity if any, stop": the bits before the stop
 unfoldable pub beforeStop : Format → ℕ → List Bool

@@ -1,17 +1,17 @@
 // A frame's bits, its levels and its length.
-use crate::counts::Bits;
-use crate::counts::Pulses;
-use crate::format::format_of;
-use crate::format::stop_code_of;
-use crate::parity::cut;
-use crate::parity::has_parity;
-use crate::parity::parity_bit;
-use crate::stop::stop_bits;
-use crate::stop::stop_length;
+use format::Bits;
+use format::Pulses;
+use format::cut;
+use format::format_of;
+use format::has_parity;
+use format::parity_bit;
+use format::stop_bits;
+use format::stop_code_of;
+use format::stop_length;
 ghost use mathlib.Core.Path.{_≡_};
 ghost use Prim.Native.Nat.{_<_, _/_, _%_, _^_};
 ghost use lib.Dec.{eqb};
-ghost use Rattle.frame.specs.Format.{formatOf, stopCodeOf};
+ghost use Rattle.format.specs.Format.{formatOf, stopCodeOf};
 ghost use Rattle.frame.specs.Levels.{frameBitsOf, levelOf, bitsBeforeStopOf, frameLengthOf};
 
 // The bits before the stop as a shift register holds them, the lowest first on the line, and high

@@ -1,8 +1,8 @@
 // Runs the frame request and prints what it answers and writes: cases 3 to 6 of document 01, then,
 // for each MR1, how many MR2 it accepts and a sum over every frame. host/frame_model prints the same
 // from the document alone.
-use frame::request_frame;
 use libc::STDOUT_FILENO;
+use request::request_frame;
 
 fn print(text: &[u8]) {
     io::write_all(STDOUT_FILENO, text);

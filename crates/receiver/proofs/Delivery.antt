@@ -8,8 +8,8 @@ use native.Mathlib.Omega.{arith}
 use lib.Dec.{ltb}
 use lib.ListN.{length, take}
 use borrow.Author.Tests.{le-ltb}
-use Rattle.frame.specs.Pick.{pick}
-use Rattle.frame.proofs.Laws.Pick.{pick-all}
+use Rattle.format.specs.Pick.{pick}
+use Rattle.format.proofs.Laws.Pick.{pick-all}
 use Rattle.character.specs.declared.character.Character.{Character}
 use Rattle.character.specs.Character.{noMarks, unmarkedOf}
 use Rattle.sampler.specs.declared.sampler.Came.{Came}

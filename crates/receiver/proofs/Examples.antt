@@ -5,12 +5,12 @@ use mathlib.Core.Path.{_≡_, refl}
 use mathlib.Core.Bool.{Bool, true, false}
 use mathlib.Core.List.{List, [], _∷_, _++_, map}
 use lib.ListN.{replicate}
-use Rattle.frame.specs.declared.format.Format.{Format}
-use Rattle.frame.specs.Digits.{bitsOf}
-use Rattle.frame.specs.Format.{formatOf}
+use Rattle.format.specs.declared.format.Format.{Format}
+use Rattle.format.specs.Digits.{bitsOf}
+use Rattle.format.specs.Format.{formatOf}
 use Rattle.frame.specs.Levels.{beforeStop, spread, levels}
-use Rattle.frame.specs.Parity.{parityBits}
-use Rattle.frame.specs.Pick.{pick}
+use Rattle.format.specs.Parity.{parityBits}
+use Rattle.format.specs.Pick.{pick}
 use Rattle.character.specs.declared.character.Character.{Character}
 use Rattle.character.specs.Character.{noMarks}
 use Rattle.sampler.specs.Assembly.{dataWidthOf, samplesOf, withSample, characterOf, parityWrongOf}

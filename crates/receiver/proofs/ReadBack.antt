@@ -6,14 +6,14 @@ use mathlib.Core.Bool.{Bool, true, false, or-true, or-false}
 use mathlib.Core.List.{List, [], _∷_, _++_, append-assoc}
 use native.Mathlib.Omega.{arith}
 use borrow.Author.Tests.{eqb-true}
-use Rattle.frame.specs.declared.format.Format.{Format}
-use Rattle.frame.specs.Pick.{pick}
-use Rattle.frame.specs.Digits.{cutOf}
-use Rattle.frame.specs.Format.{formatOf}
-use Rattle.frame.specs.Stop.{stopLengthOf}
+use Rattle.format.specs.declared.format.Format.{Format}
+use Rattle.format.specs.Pick.{pick}
+use Rattle.format.specs.Digits.{cutOf}
+use Rattle.format.specs.Format.{formatOf}
+use Rattle.format.specs.Stop.{stopLengthOf}
 use Rattle.frame.specs.Levels.{beforeStop, spread, levels, frame}
-use Rattle.frame.proofs.Laws.Format.{width-most}
-use Rattle.frame.proofs.Laws.Stop.{stop-least}
+use Rattle.format.proofs.Laws.Format.{width-most}
+use Rattle.format.proofs.Laws.Stop.{stop-least}
 use Rattle.character.specs.declared.character.Character.{Character}
 use Rattle.character.specs.Character.{clean}
 use Rattle.sampler.specs.declared.sampler.Came.{Came}

@@ -7,11 +7,11 @@ use mathlib.Core.Bool.{true, false, true≢false}
 use mathlib.Core.List.{List, [], _∷_, _++_}
 use native.Mathlib.Omega.{arith}
 use lib.ListN.{length, getD, replicate}
-use Rattle.frame.specs.declared.format.Format.{Format}
-use Rattle.frame.specs.Digits.{bitsOf}
+use Rattle.format.specs.declared.format.Format.{Format}
+use Rattle.format.specs.Digits.{bitsOf}
 use Rattle.frame.specs.Levels.{beforeStop, spread, levels}
-use Rattle.frame.specs.Parity.{parityBits}
-use Rattle.frame.specs.Pick.{pick}
+use Rattle.format.specs.Parity.{parityBits}
+use Rattle.format.specs.Pick.{pick}
 use Rattle.character.specs.declared.character.Character.{Character}
 use Rattle.character.specs.declared.character.Marks.{Marks}
 use Rattle.character.specs.Character.{noCharacter, noMarks}

@@ -4,8 +4,8 @@ use Prim.Native.Nat.{ℕ, _≤_}
 use mathlib.Core.Path.{_≡_}
 use mathlib.Core.Bool.{Bool, true}
 use mathlib.Core.List.{List, [], _∷_, _++_}
-use Rattle.frame.specs.declared.format.Format.{Format}
-use Rattle.frame.specs.Digits.{cutOf}
+use Rattle.format.specs.declared.format.Format.{Format}
+use Rattle.format.specs.Digits.{cutOf}
 use Rattle.frame.specs.Levels.{beforeStop, levels}
 use Rattle.character.specs.declared.character.Character.{Character}
 use Rattle.character.specs.Character.{clean}

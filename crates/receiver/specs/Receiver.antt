@@ -1,7 +1,7 @@
 -- One receiver: sampler and queue side by side, and what a feed does to it. Assumes nothing.
 use Prim.Native.Nat.{ℕ}
 use mathlib.Core.Bool.{Bool, false, _||_}
-use Rattle.frame.specs.Pick.{pick}
+use Rattle.format.specs.Pick.{pick}
 use Rattle.character.specs.declared.character.Character.{Character}
 use Rattle.character.specs.declared.character.Marks.{Marks}
 use Rattle.character.specs.Character.{noMarks, orMarks, unmarkedOf}

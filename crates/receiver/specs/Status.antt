@@ -1,6 +1,6 @@
 -- What a receiver shows of itself in the status register. Assumes nothing.
 use mathlib.Core.Bool.{Bool, not}
-use Rattle.frame.specs.Pick.{pick}
+use Rattle.format.specs.Pick.{pick}
 use Rattle.character.specs.declared.character.Marks.{Marks}
 use Rattle.queue.specs.Queue.{isEmptyOf, isFullOf}
 use Rattle.receiver.specs.declared.receiver.Receiver.{Receiver}

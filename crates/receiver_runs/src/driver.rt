@@ -69,7 +69,7 @@ pub fn pulse(driver: Driver, level: bool) -> Driver {
     let mut d = driver;
     if driver.enabled {
         let setting = Setting {
-            format: frame::format_of(driver.mr1),
+            format: format::format_of(driver.mr1),
             sixteen: driver.sixteen,
         };
         let fed = feed_receiver(driver.receiver, Feed::Pulse(level, setting));

@@ -4,7 +4,7 @@ use crate::driver::drawn;
 use crate::driver::next;
 use crate::driver::pulse_times;
 use crate::driver::send_bit;
-use frame::Bits;
+use format::Bits;
 
 // The first so many bits of a byte's frame, with one of them inverted.
 pub fn send(driver: Driver, byte: u8, bits: u8, inverted: u8) -> Driver {
@@ -21,7 +21,7 @@ pub fn send(driver: Driver, byte: u8, bits: u8, inverted: u8) -> Driver {
 
 // Start, data and parity bits, and one of the stop.
 pub fn frame_and_stop(mr1: u8) -> u8 {
-    if frame::has_parity(frame::format_of(mr1)) {
+    if format::has_parity(format::format_of(mr1)) {
         return mr1 % 4 + 8;
     }
     mr1 % 4 + 7

@@ -2,10 +2,10 @@
 use Prim.Native.Nat.{ℕ, _+_, _/_, _%_, _^_}
 use mathlib.Core.Bool.{Bool, false, not}
 use lib.Dec.{eqb, ltb}
-use Rattle.frame.specs.declared.counts.Bits.{Bits}
-use Rattle.frame.specs.declared.format.Format.{Format}
-use Rattle.frame.specs.Pick.{pick}
-use Rattle.frame.specs.Parity.{hasParityOf, parityBitOf}
+use Rattle.format.specs.declared.counts.Bits.{Bits}
+use Rattle.format.specs.declared.format.Format.{Format}
+use Rattle.format.specs.Pick.{pick}
+use Rattle.format.specs.Parity.{hasParityOf, parityBitOf}
 use Rattle.character.specs.declared.character.Character.{Character}
 
 -- the data bits that are sampled: a width that MR1 cannot choose, above 8, goes with 8

@@ -2,7 +2,7 @@
 -- what the sampler, run alone over it, puts together. There is no queue here, and nothing that a program reads. Assumes nothing.
 use mathlib.Core.Bool.{Bool, true, false}
 use mathlib.Core.List.{List, [], _∷_, _++_}
-use Rattle.frame.specs.declared.format.Format.{Format}
+use Rattle.format.specs.declared.format.Format.{Format}
 use Rattle.character.specs.declared.character.Character.{Character}
 use Rattle.sampler.specs.declared.sampler.Came.{Came}
 use Rattle.sampler.specs.declared.sampler.Came.the-variants.{NoCharacter, Arrival}

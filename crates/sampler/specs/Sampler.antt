@@ -3,7 +3,7 @@
 use Prim.Native.Nat.{ℕ, _+_, _-_}
 use mathlib.Core.Bool.{Bool, true, false}
 use lib.Dec.{eqb, ltb}
-use Rattle.frame.specs.Pick.{pick}
+use Rattle.format.specs.Pick.{pick}
 use Rattle.character.specs.Character.{breakCharacter}
 use Rattle.sampler.specs.declared.sampler.Came.the-variants.{NoCharacter, Arrival}
 use Rattle.sampler.specs.declared.sampler.Sampled.{Sampled}

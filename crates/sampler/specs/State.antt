@@ -2,10 +2,10 @@
 -- Assumes nothing.
 use Prim.Native.Nat.{ℕ}
 use mathlib.Core.Bool.{Bool, true, false}
-use Rattle.frame.specs.declared.counts.Bits.{Bits}
-use Rattle.frame.specs.declared.counts.Pulses.{Pulses}
-use Rattle.frame.specs.Format.{formatOf}
-use Rattle.frame.specs.Pick.{pick}
+use Rattle.format.specs.declared.counts.Bits.{Bits}
+use Rattle.format.specs.declared.counts.Pulses.{Pulses}
+use Rattle.format.specs.Format.{formatOf}
+use Rattle.format.specs.Pick.{pick}
 use Rattle.sampler.specs.declared.state.Sampler.{Sampler}
 use Rattle.sampler.specs.declared.state.Setting.{Setting}
 

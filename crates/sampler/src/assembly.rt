@@ -1,8 +1,8 @@
 // A character put together from samples: how many there are before the stop's, and what they say.
 use character::Character;
 use character::Marks;
-use frame::Bits;
-use frame::Format;
+use format::Bits;
+use format::Format;
 ghost use mathlib.Core.Path.{_≡_};
 ghost use Rattle.sampler.specs.Assembly.{dataWidthOf, samplesOf, dataWeight, dataOf, parityWrongOf, characterOf};
 
@@ -21,7 +21,7 @@ pub fn samples_before_stop(format: Format) -> Bits
     ensures { λ r. ⌜ r ≡ samplesOf format ⌝ }
 {
     let width = data_width(format);
-    if frame::has_parity(format) {
+    if format::has_parity(format) {
         return Bits(width.0 + 1);
     }
     width
@@ -47,9 +47,9 @@ fn data_of(format: Format, value: u16) -> u8
 fn parity_wrong(format: Format, value: u16) -> bool
     ensures { λ r. ⌜ r ≡ parityWrongOf format value ⌝ }
 {
-    let checked = frame::has_parity(format);
+    let checked = format::has_parity(format);
     if checked {
-        let right = frame::parity_bit(format, data_of(format, value));
+        let right = format::parity_bit(format, data_of(format, value));
         if value / data_weight(format) % 2 == 1 {
             return !right;
         }

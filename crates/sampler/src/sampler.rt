@@ -16,8 +16,8 @@ use crate::state::hunting_after;
 use crate::state::starting_at;
 use character::Character;
 use character::break_character;
-use frame::Bits;
-use frame::Pulses;
+use format::Bits;
+use format::Pulses;
 ghost use mathlib.Core.Path.{_≡_};
 ghost use Rattle.sampler.specs.Sampler.{still, confirmed, lowAt, hunted, lookedAgain, arrived, finished, sampled, assembled, followed, ended, waited, sampleOf};
 

@@ -1,7 +1,7 @@
 // What a sampler is doing, and the pulses it lets pass before it looks again.
-use frame::Bits;
-use frame::Format;
-use frame::Pulses;
+use format::Bits;
+use format::Format;
+use format::Pulses;
 ghost use mathlib.Core.Path.{_≡_};
 ghost use mathlib.Core.Bool.{false};
 ghost use Rattle.sampler.specs.State.{noSetting, emptyAt, hunting, starting, assembling, gapOf, afterStop};
@@ -50,7 +50,7 @@ pub fn no_setting() -> Setting
     ensures { λ r. ⌜ r ≡ noSetting ⌝ }
 {
     Setting {
-        format: frame::format_of(0),
+        format: format::format_of(0),
         sixteen: true,
     }
 }

@@ -8,8 +8,8 @@ use native.Mathlib.Decide.{decLe}
 use native.Mathlib.Nat.{zero-add, add-zero, add-suc, sub-zero, zero-mod, zero-div}
 use lib.Dec.{eqb, leb, eqb·suc-zero}
 use borrow.Author.Tests.{eq-eqb, ne-eqb, le-leb, lt-leb}
-use Rattle.frame.specs.Pick.{pick}
-use Rattle.frame.proofs.Laws.Pick.{pick-all, pick-yes, pick-no}
+use Rattle.format.specs.Pick.{pick}
+use Rattle.format.proofs.Laws.Pick.{pick-all, pick-yes, pick-no}
 use Rattle.timer.specs.declared.timer.Counted.{Counted}
 use Rattle.timer.specs.declared.timer.Timer.{Timer}
 use Rattle.timer.specs.Timer.{withCount, withReady, isTimer, countedDown, counterPulsed, timerPulsed, pulsedBy, startedOf, stoppedOf, modeChanged}

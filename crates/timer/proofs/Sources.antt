@@ -8,11 +8,11 @@ use native.Mathlib.Omega.{arith}
 use native.Mathlib.Numerals.{add-one}
 use native.Mathlib.Nat.{add-zero}
 use lib.Dec.{eqb}
-use Rattle.frame.specs.declared.counts.Pulses.{Pulses}
-use Rattle.frame.specs.declared.counts.Ticks.{Ticks}
-use Rattle.frame.specs.Digits.{bit}
-use Rattle.frame.specs.Pick.{pick}
-use Rattle.frame.proofs.Laws.Pick.{pick-all}
+use Rattle.format.specs.declared.counts.Pulses.{Pulses}
+use Rattle.format.specs.declared.counts.Ticks.{Ticks}
+use Rattle.format.specs.Digits.{bit}
+use Rattle.format.specs.Pick.{pick}
+use Rattle.format.proofs.Laws.Pick.{pick-all}
 use Rattle.clocks.specs.declared.divider.Divided.{Divided}
 use Rattle.clocks.specs.declared.divider.Sixteenth.{Sixteenth}
 use Rattle.timer.specs.declared.timer.Counted.{Counted}

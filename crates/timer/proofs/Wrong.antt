@@ -6,7 +6,7 @@ use mathlib.Core.Bool.{Bool, true, false, true≢false, not, _&&_, _||_}
 use mathlib.Core.List.{[], _∷_}
 use native.Mathlib.Omega.{arith}
 use lib.Dec.{eqb}
-use Rattle.frame.specs.Pick.{pick}
+use Rattle.format.specs.Pick.{pick}
 use Rattle.timer.specs.declared.timer.Counted.{Counted}
 use Rattle.timer.specs.declared.timer.Timer.{Timer}
 use Rattle.clocks.specs.Divider.{dividedOf, sixteenthOf}

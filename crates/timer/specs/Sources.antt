@@ -5,7 +5,7 @@ use mathlib.Core.Path.{_≡_}
 use mathlib.Core.Bool.{Bool, true, false}
 use mathlib.Core.List.{List, [], _∷_}
 use lib.Dec.{eqb}
-use Rattle.frame.specs.Digits.{bit}
+use Rattle.format.specs.Digits.{bit}
 use Rattle.timer.specs.declared.timer.Counted.{Counted}
 use Rattle.timer.specs.declared.timer.Timer.{Timer}
 use Rattle.timer.specs.Timer.{freshTimer, withPhases, modeOf, tickPulses, edgePulses, transmitterPulses}

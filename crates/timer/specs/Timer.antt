@@ -2,9 +2,9 @@
 use Prim.Native.Nat.{ℕ, _+_, _/_, _%_}
 use mathlib.Core.Bool.{Bool, true, false, not, _&&_, _||_}
 use lib.Dec.{eqb, leb}
-use Rattle.frame.specs.declared.counts.Pulses.{Pulses}
-use Rattle.frame.specs.declared.counts.Ticks.{Ticks}
-use Rattle.frame.specs.Pick.{pick}
+use Rattle.format.specs.declared.counts.Pulses.{Pulses}
+use Rattle.format.specs.declared.counts.Ticks.{Ticks}
+use Rattle.format.specs.Pick.{pick}
 use Rattle.timer.specs.declared.timer.Counted.{Counted}
 use Rattle.timer.specs.declared.timer.Timer.{Timer}
 use Rattle.clocks.specs.Divider.{dividedOf, sixteenthOf}

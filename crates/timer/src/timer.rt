@@ -1,8 +1,8 @@
 // The counter/timer.
 use clocks::divide;
 use clocks::divide_by_16;
-use frame::Pulses;
-use frame::Ticks;
+use format::Pulses;
+use format::Ticks;
 ghost use mathlib.Core.Path.{_≡_};
 ghost use Rattle.timer.specs.Timer.{freshTimer, modeOf, isTimer, countedDown, counterPulsed, timerPulsed, pulsedBy, tickPulses, edgePulses, transmitterPulses, tickedBy, edgedBy, transmittedBy, startedOf, stoppedOf, modeChanged};
 

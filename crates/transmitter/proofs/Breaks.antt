@@ -8,8 +8,8 @@ use native.Mathlib.Omega.{arith}
 use native.Mathlib.Nat.{sub-zero, suc-sub-suc}
 use lib.Dec.{eqb}
 use borrow.Author.Tests.{eqb-true, ne-eqb}
-use Rattle.frame.specs.Pick.{pick}
-use Rattle.frame.proofs.Laws.Pick.{pick-yes, pick-no, pick-all}
+use Rattle.format.specs.Pick.{pick}
+use Rattle.format.proofs.Laws.Pick.{pick-yes, pick-no, pick-all}
 use Rattle.transmitter.specs.declared.sending.Standing.{Standing}
 use Rattle.transmitter.specs.declared.state.Transmitter.{Transmitter}
 use Rattle.transmitter.specs.declared.transmitter.Input.{Input}

@@ -5,12 +5,12 @@ use mathlib.Core.Path.{_≡_, refl, ap, _∙_}
 use mathlib.Core.Bool.{Bool, true, false}
 use mathlib.Core.List.{List, [], _∷_, _++_}
 use lib.ListN.{length, replicate}
-use Rattle.frame.specs.Digits.{bitsOf, valueOf}
-use Rattle.frame.specs.Format.{formatOf}
+use Rattle.format.specs.Digits.{bitsOf, valueOf}
+use Rattle.format.specs.Format.{formatOf}
 use Rattle.frame.specs.Levels.{beforeStop, bitsBeforeStopOf, spread, levels, frame, frameLengthOf, frameBitsOf, levelOf}
-use Rattle.frame.specs.Parity.{parityBits}
-use Rattle.frame.specs.Pick.{pick}
-use Rattle.frame.specs.Stop.{stopLengthOf, stopBitsOf}
+use Rattle.format.specs.Parity.{parityBits}
+use Rattle.format.specs.Pick.{pick}
+use Rattle.format.specs.Stop.{stopLengthOf, stopBitsOf}
 use Rattle.transmitter.specs.declared.sending.Standing.{Standing}
 use Rattle.transmitter.specs.declared.state.Transmitter.{Transmitter}
 use Rattle.transmitter.specs.declared.transmitter.Input.{Input}

@@ -12,11 +12,11 @@ use lib.Dec.{eqb, ltb, leb}
 use lib.ListN.{length, getD, drop, replicate, drop-of-length-le, List·getD-eq-default}
 use lib.Seq.{drop-cons}
 use borrow.Author.Tests.{ltb-true, lt-ltb, le-leb}
-use Rattle.frame.specs.declared.counts.Pulses.{Pulses}
-use Rattle.frame.specs.Pick.{pick}
-use Rattle.frame.specs.Format.{formatOf, stopCodeOf}
+use Rattle.format.specs.declared.counts.Pulses.{Pulses}
+use Rattle.format.specs.Pick.{pick}
+use Rattle.format.specs.Format.{formatOf, stopCodeOf}
 use Rattle.frame.specs.Levels.{beforeStop, frame, frameBitsOf, frameLengthOf, levelOf}
-use Rattle.frame.proofs.Laws.Pick.{pick-yes, pick-no, pick-all}
+use Rattle.format.proofs.Laws.Pick.{pick-yes, pick-no, pick-all}
 use Rattle.frame.proofs.Laws.Levels.{before-stop-most, length-before-stop, frame-length, frame-at}
 use Rattle.frame.proofs.Laws.Register.{register-at}
 use Rattle.transmitter.specs.declared.sending.Standing.{Standing}

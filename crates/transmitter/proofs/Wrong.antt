@@ -8,12 +8,12 @@ use mathlib.Core.List.{List, [], _∷_}
 use native.Mathlib.Omega.{arith}
 use lib.Dec.{eqb, leb}
 use lib.ListN.{getD, replicate}
-use Rattle.frame.specs.Digits.{bitsOf, valueOf}
-use Rattle.frame.specs.Format.{formatOf, stopCodeOf}
+use Rattle.format.specs.Digits.{bitsOf, valueOf}
+use Rattle.format.specs.Format.{formatOf, stopCodeOf}
 use Rattle.frame.specs.Levels.{beforeStop, bitsBeforeStopOf, spread, levels, frame, frameLengthOf, frameBitsOf, levelOf}
-use Rattle.frame.specs.Parity.{parityBits}
-use Rattle.frame.specs.Pick.{pick}
-use Rattle.frame.specs.Stop.{stopLengthOf, stopBitsOf}
+use Rattle.format.specs.Parity.{parityBits}
+use Rattle.format.specs.Pick.{pick}
+use Rattle.format.specs.Stop.{stopLengthOf, stopBitsOf}
 use Rattle.transmitter.specs.declared.sending.Standing.{Standing}
 use Rattle.transmitter.specs.declared.state.Shifter.{Shifter}
 use Rattle.transmitter.specs.declared.state.Transmitter.{Transmitter}

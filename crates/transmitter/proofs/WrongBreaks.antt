@@ -6,7 +6,7 @@ use mathlib.Core.List.{[], _∷_}
 use native.Mathlib.Omega.{arith}
 use lib.Dec.{eqb, ltb}
 use lib.ListN.{replicate}
-use Rattle.frame.specs.Pick.{pick}
+use Rattle.format.specs.Pick.{pick}
 use Rattle.transmitter.specs.declared.sending.Standing.{Standing}
 use Rattle.transmitter.specs.declared.state.Transmitter.{Transmitter}
 use Rattle.transmitter.specs.declared.transmitter.Input.the-variants.{Pulse, Write, StopBreak}

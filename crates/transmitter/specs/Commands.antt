@@ -2,7 +2,7 @@
 use Prim.Native.Nat.{ℕ}
 use mathlib.Core.Bool.{true, false, _||_}
 use lib.Dec.{eqb}
-use Rattle.frame.specs.Pick.{pick}
+use Rattle.format.specs.Pick.{pick}
 use Rattle.transmitter.specs.declared.state.Transmitter.{Transmitter}
 use Rattle.transmitter.specs.State.{idlePhase, inBreak, afterBreak, emptyShifter, withEnabled, withHolding, withPhase, withShifter, withLeft, withAsked}
 

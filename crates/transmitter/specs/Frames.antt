@@ -6,8 +6,8 @@ use mathlib.Core.Bool.{Bool, true, false, not, _&&_}
 use mathlib.Core.List.{List, [], _∷_, _++_}
 use lib.Dec.{eqb, ltb, leb}
 use lib.ListN.{length, getD, replicate}
-use Rattle.frame.specs.Pick.{pick}
-use Rattle.frame.specs.Format.{formatOf, stopCodeOf}
+use Rattle.format.specs.Pick.{pick}
+use Rattle.format.specs.Format.{formatOf, stopCodeOf}
 use Rattle.frame.specs.Levels.{frame}
 use Rattle.transmitter.specs.declared.sending.Standing.{Standing}
 use Rattle.transmitter.specs.declared.state.Transmitter.{Transmitter}

@@ -1,7 +1,7 @@
 -- What a transmitter holds. Assumes nothing.
 use Prim.Native.Nat.{ℕ}
 use mathlib.Core.Bool.{Bool, true, false}
-use Rattle.frame.specs.declared.counts.Pulses.{Pulses}
+use Rattle.format.specs.declared.counts.Pulses.{Pulses}
 use Rattle.transmitter.specs.declared.state.Shifter.{Shifter}
 use Rattle.transmitter.specs.declared.state.Transmitter.{Transmitter}
 

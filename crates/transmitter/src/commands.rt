@@ -4,7 +4,7 @@ use crate::state::IDLE;
 use crate::state::IN_BREAK;
 use crate::state::Transmitter;
 use crate::state::empty_shifter;
-use frame::Pulses;
+use format::Pulses;
 ghost use mathlib.Core.Path.{_≡_};
 ghost use Rattle.transmitter.specs.Commands.{writtenOf, enabledOf, highAfter, breakEnded, disabledOf, droppedOf, resetOf, breakAsked};
 

@@ -5,8 +5,8 @@ use crate::state::IN_BREAK;
 use crate::state::SENDING;
 use crate::state::Shifter;
 use crate::state::Transmitter;
-use frame::Bits;
-use frame::Pulses;
+use format::Bits;
+use format::Pulses;
 ghost use mathlib.Core.Path.{_≡_};
 ghost use Rattle.transmitter.specs.Sending.{clearToSend, canStart, takenOf, startedOf, breakBegun, idleOf, begunOf, bitOfPulse, sentOnOf, heldHigh, pulsedOf};
 

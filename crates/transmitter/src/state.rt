@@ -1,6 +1,6 @@
 // What a transmitter holds.
+use format::Pulses;
 use frame::FrameBits;
-use frame::Pulses;
 ghost use mathlib.Core.Path.{_≡_};
 ghost use Rattle.transmitter.specs.State.{emptyShifter, freshTransmitter};
 

@@ -7,7 +7,7 @@ use native.Mathlib.Omega.{arith}
 use lib.Dec.{leb}
 use lib.ListN.{length, getD, List·getD-eq-default}
 use borrow.Author.Tests.{leb-true}
-use Rattle.frame.proofs.Laws.Pick.{pick-all}
+use Rattle.format.proofs.Laws.Pick.{pick-all}
 use Rattle.clocks.specs.Rates.{firstSet, secondSet, periodOf}
 
 abbrev between : List ℕ → Bool

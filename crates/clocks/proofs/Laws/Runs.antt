@@ -9,9 +9,9 @@ use native.Mathlib.Nat.{suc-mod, mod-lt, mod-self, mod-eq-of-lt, div-add-mod', d
 use lib.Arith.{mod-mul}
 use lib.Dec.{eqb, ltb, leb, eqb·suc-zero}
 use borrow.Author.Tests.{lt-ltb, le-ltb, eq-eqb, ne-eqb, le-leb, lt-leb}
-use Rattle.frame.specs.Digits.{bit}
-use Rattle.frame.specs.Pick.{pick}
-use Rattle.frame.proofs.Laws.Pick.{pick-yes, pick-no}
+use Rattle.format.specs.Digits.{bit}
+use Rattle.format.specs.Pick.{pick}
+use Rattle.format.proofs.Laws.Pick.{pick-yes, pick-no}
 use Rattle.clocks.specs.Divider.{upTo}
 
 -- where the number after m stands in its run

@@ -9,17 +9,17 @@ use native.Mathlib.Numerals.{add-one}
 use native.Mathlib.Nat.{div-eq-of-lt, add-div-left, add-comm, mul-suc}
 use lib.ListN.{length, take, replicate, getD, length-append, length-replicate, getD-replicate, List·getD-append}
 use lib.Seq.{getD-append-add, take-append-add}
-use Rattle.frame.specs.declared.format.Format.{Format}
-use Rattle.frame.specs.Pick.{pick}
-use Rattle.frame.specs.Digits.{valueOf, cutOf}
-use Rattle.frame.specs.Format.{formatOf}
-use Rattle.frame.specs.Parity.{dataBits, hasParityOf, parityBitOf, parityBits}
-use Rattle.frame.specs.Stop.{stopLengthOf}
+use Rattle.format.specs.declared.format.Format.{Format}
+use Rattle.format.specs.Pick.{pick}
+use Rattle.format.specs.Digits.{valueOf, cutOf}
+use Rattle.format.specs.Format.{formatOf}
+use Rattle.format.specs.Parity.{dataBits, hasParityOf, parityBitOf, parityBits}
+use Rattle.format.specs.Stop.{stopLengthOf}
 use Rattle.frame.specs.Levels.{beforeStop, bitsBeforeStopOf, spread, levels, pulsesPerBit, stopPulses, frame, frameLengthOf}
-use Rattle.frame.proofs.Laws.Pick.{pick-all}
-use Rattle.frame.proofs.Laws.Digits.{length-bits, value-bits}
-use Rattle.frame.proofs.Laws.Format.{width-most}
-use Rattle.frame.proofs.Laws.Stop.{stop-most, bits-most}
+use Rattle.format.proofs.Laws.Pick.{pick-all}
+use Rattle.format.proofs.Laws.Digits.{length-bits, value-bits}
+use Rattle.format.proofs.Laws.Format.{width-most}
+use Rattle.format.proofs.Laws.Stop.{stop-most, bits-most}
 
 pub before-stop-most : (mr1 : ℕ) → bitsBeforeStopOf (formatOf mr1) .0 ≤ 10
 unfolding bitsBeforeStopOf

@@ -10,14 +10,14 @@ use lib.Dec.{eqb, ltb}
 use lib.ListN.{length, replicate, getD, length-append, List·getD-eq-default}
 use lib.Pow.{pow-add, pow-mono, pow-pos}
 use borrow.Author.Tests.{lt-ltb, le-ltb}
-use Rattle.frame.specs.declared.format.Format.{Format}
+use Rattle.format.specs.declared.format.Format.{Format}
 use Rattle.frame.specs.declared.levels.FrameBits.{FrameBits}
-use Rattle.frame.specs.Pick.{pick}
-use Rattle.frame.specs.Digits.{valueOf}
-use Rattle.frame.specs.Parity.{dataBits, hasParityOf, parityBitOf, parityBits}
+use Rattle.format.specs.Pick.{pick}
+use Rattle.format.specs.Digits.{valueOf}
+use Rattle.format.specs.Parity.{dataBits, hasParityOf, parityBitOf, parityBits}
 use Rattle.frame.specs.Levels.{beforeStop, frameBitsOf, levelOf}
-use Rattle.frame.proofs.Laws.Pick.{pick-yes, pick-no}
-use Rattle.frame.proofs.Laws.Digits.{length-bits, value-bits, value-append, value-highs, value-at}
+use Rattle.format.proofs.Laws.Pick.{pick-yes, pick-no}
+use Rattle.format.proofs.Laws.Digits.{length-bits, value-bits, value-append, value-highs, value-at}
 
 padded : (bs : List Bool) (m i : ℕ) → i < length bs + m → getD (bs ++ replicate m true) i false ≡ getD bs i true
 padded [] zero i h = absurd (omega arith)

@@ -2,7 +2,7 @@
 use mathlib.Core.Path.{_≡_, refl}
 use mathlib.Core.Bool.{true, and-eq-true-iff}
 use mathlib.Core.List.{List, [], _∷_}
-use Rattle.frame.specs.Format.{formatOf}
+use Rattle.format.specs.Format.{formatOf}
 use Rattle.sampler.specs.Sound.{samplerInRange}
 use Rattle.queue.specs.Sound.{queueInRange}
 use Rattle.receiver.specs.declared.receiver.Feed.{Feed}

@@ -11,13 +11,13 @@ use lib.Dec.{eqb, ltb}
 use lib.ListN.{length, length-append}
 use lib.Pow.{pow-mono}
 use borrow.Author.Tests.{ltb-true, ltb-false}
-use Rattle.frame.specs.declared.counts.Bits.{Bits}
-use Rattle.frame.specs.declared.format.Format.{Format}
-use Rattle.frame.specs.Pick.{pick}
-use Rattle.frame.specs.Digits.{bit, valueOf, cutOf}
-use Rattle.frame.specs.Parity.{dataBits, hasParityOf, parityBitOf, parityBits}
-use Rattle.frame.proofs.Laws.Pick.{pick-all}
-use Rattle.frame.proofs.Laws.Digits.{length-bits, value-bits, bits-cut, value-append}
+use Rattle.format.specs.declared.counts.Bits.{Bits}
+use Rattle.format.specs.declared.format.Format.{Format}
+use Rattle.format.specs.Pick.{pick}
+use Rattle.format.specs.Digits.{bit, valueOf, cutOf}
+use Rattle.format.specs.Parity.{dataBits, hasParityOf, parityBitOf, parityBits}
+use Rattle.format.proofs.Laws.Pick.{pick-all}
+use Rattle.format.proofs.Laws.Digits.{length-bits, value-bits, bits-cut, value-append}
 use Rattle.character.specs.Character.{clean}
 use Rattle.sampler.specs.Assembly.{dataWidthOf, samplesOf, withSample, dataOf, parityWrongOf, characterOf}
 

@@ -10,10 +10,10 @@ use native.Mathlib.Nat.{pow-succ', add-zero, zero-add, zero-mul, mul-one}
 use lib.Dec.{ltb}
 use lib.ListN.{length, replicate, replicate-append-replicate}
 use borrow.Author.Tests.{lt-ltb, le-ltb}
-use Rattle.frame.specs.declared.format.Format.{Format}
-use Rattle.frame.specs.Pick.{pick}
-use Rattle.frame.specs.Digits.{bit, valueOf, cutOf}
-use Rattle.frame.specs.Parity.{dataBits, parityBits}
+use Rattle.format.specs.declared.format.Format.{Format}
+use Rattle.format.specs.Pick.{pick}
+use Rattle.format.specs.Digits.{bit, valueOf, cutOf}
+use Rattle.format.specs.Parity.{dataBits, parityBits}
 use Rattle.frame.specs.Levels.{beforeStop, spread, levels}
 use Rattle.character.specs.declared.character.Character.{Character}
 use Rattle.character.specs.Character.{clean}

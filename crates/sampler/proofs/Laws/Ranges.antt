@@ -8,11 +8,11 @@ use native.Mathlib.Nat.{lt-of-lt-of-le}
 use lib.Dec.{eqb, ltb, leb}
 use lib.Pow.{pow-mono}
 use borrow.Author.Tests.{ltb-true, leb-true, le-leb}
-use Rattle.frame.specs.declared.counts.Bits.{Bits}
-use Rattle.frame.specs.declared.counts.Pulses.{Pulses}
-use Rattle.frame.specs.Pick.{pick}
-use Rattle.frame.specs.Format.{formatOf}
-use Rattle.frame.proofs.Laws.Pick.{pick-all}
+use Rattle.format.specs.declared.counts.Bits.{Bits}
+use Rattle.format.specs.declared.counts.Pulses.{Pulses}
+use Rattle.format.specs.Pick.{pick}
+use Rattle.format.specs.Format.{formatOf}
+use Rattle.format.proofs.Laws.Pick.{pick-all}
 use Rattle.sampler.specs.declared.sampler.Sampled.{Sampled}
 use Rattle.sampler.specs.declared.state.Sampler.{Sampler}
 use Rattle.sampler.specs.declared.state.Setting.{Setting}

@@ -6,7 +6,7 @@ use mathlib.Core.Bool.{Bool, true, and-eq-true-iff}
 use native.Mathlib.Omega.{arith}
 use lib.Dec.{eqb, leb}
 use borrow.Author.Tests.{leb-true, le-leb}
-use Rattle.frame.proofs.Laws.Pick.{pick-all}
+use Rattle.format.proofs.Laws.Pick.{pick-all}
 use Rattle.timer.specs.declared.timer.Counted.{Counted}
 use Rattle.timer.specs.declared.timer.Timer.{Timer}
 use Rattle.timer.specs.Timer.{freshTimer, modeOf, isTimer, countedDown, counterPulsed, timerPulsed, pulsedBy, tickedBy, edgedBy, transmittedBy, startedOf, stoppedOf, modeChanged}

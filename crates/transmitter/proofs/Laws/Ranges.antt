@@ -7,10 +7,10 @@ use mathlib.Core.List.{List, [], _∷_}
 use native.Mathlib.Omega.{arith}
 use lib.Dec.{eqb, ltb, leb}
 use borrow.Author.Tests.{ltb-true, leb-true, le-leb}
-use Rattle.frame.specs.Pick.{pick}
-use Rattle.frame.specs.Format.{formatOf, stopCodeOf}
+use Rattle.format.specs.Pick.{pick}
+use Rattle.format.specs.Format.{formatOf, stopCodeOf}
 use Rattle.frame.specs.Levels.{frameLengthOf}
-use Rattle.frame.proofs.Laws.Pick.{pick-all}
+use Rattle.format.proofs.Laws.Pick.{pick-all}
 use Rattle.frame.proofs.Laws.Levels.{length-most}
 use Rattle.transmitter.specs.declared.sending.Standing.{Standing}
 use Rattle.transmitter.specs.declared.state.Transmitter.{Transmitter}

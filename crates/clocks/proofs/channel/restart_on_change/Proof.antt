@@ -1,6 +1,6 @@
 -- `restart_on_change` meets its contract: each way through the tests is the definition's, with the callee's answer. Assumes nothing.
 use borrow.Author.Needs.{needs}
-use Rattle.frame.proofs.Laws.{steps}
+use Rattle.format.proofs.Laws.{steps}
 use Rattle.clocks.specs.Channel.{restartedOnChange}
 use Rattle.clocks.proofs.channel.restart_on_change.Statement.{statement}
 use Rattle.clocks.proofs.channel.restart_on_change.Tie as tie

@@ -1,6 +1,6 @@
 -- `side` meets its contract: each way through the tests is the definition's, with the callee's answer. Assumes nothing.
 use borrow.Author.Needs.{needs}
-use Rattle.frame.proofs.Laws.{steps}
+use Rattle.format.proofs.Laws.{steps}
 use Rattle.clocks.specs.Channel.{sideOf}
 use Rattle.clocks.proofs.channel.side.Statement.{statement}
 use Rattle.clocks.proofs.channel.side.Tie as tie

@@ -1,6 +1,6 @@
 -- `tick_side` meets its contract: each way through the tests is the definition's, with the callee's answer. Assumes nothing.
 use borrow.Author.Needs.{needs}
-use Rattle.frame.proofs.Laws.{steps}
+use Rattle.format.proofs.Laws.{steps}
 use Rattle.clocks.specs.Channel.{tickedOf}
 use Rattle.clocks.proofs.channel.tick_side.Statement.{statement}
 use Rattle.clocks.proofs.channel.tick_side.Tie as tie

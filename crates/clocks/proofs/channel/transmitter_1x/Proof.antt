@@ -1,6 +1,6 @@
 -- `transmitter_1x` meets its contract: each way through the tests is the definition's, with the callee's answer. Assumes nothing.
 use borrow.Author.Needs.{needs}
-use Rattle.frame.proofs.Laws.{steps}
+use Rattle.format.proofs.Laws.{steps}
 use Rattle.clocks.specs.Channel.{transmitter1x}
 use Rattle.clocks.proofs.channel.transmitter_1x.Statement.{statement}
 use Rattle.clocks.proofs.channel.transmitter_1x.Tie as tie

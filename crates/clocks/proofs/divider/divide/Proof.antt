@@ -3,7 +3,7 @@ use Prim.Native.Nat.{_+_, _≤_, _<_}
 use native.Mathlib.Omega.{arith}
 use borrow.Author.Needs.{needs}
 use borrow.Author.Tests.{lt-ltb, le-ltb}
-use Rattle.frame.proofs.Laws.Pick.{pick-yes, pick-no}
+use Rattle.format.proofs.Laws.Pick.{pick-yes, pick-no}
 use Rattle.clocks.specs.Divider.{dividedOf}
 use Rattle.clocks.proofs.divider.divide.Statement.{statement}
 use Rattle.clocks.proofs.divider.divide.Tie as tie

@@ -2,7 +2,7 @@
 -- no period. Assumes nothing.
 use native.Mathlib.Omega.{arith}
 use borrow.Author.Needs.{needs}
-use Rattle.frame.proofs.Laws.{steps}
+use Rattle.format.proofs.Laws.{steps}
 use Rattle.clocks.specs.Rates.{periodOf}
 use Rattle.clocks.proofs.Laws.Rates.{no-period}
 use Rattle.clocks.proofs.rates.period_of.Statement.{statement}

@@ -1,6 +1,6 @@
 -- `mr1_from` meets its contract: each way through the tests is the definition's. Assumes nothing.
 use borrow.Author.Needs.{needs}
-use Rattle.frame.proofs.Laws.{steps}
+use Rattle.format.proofs.Laws.{steps}
 use Rattle.draws.specs.Draws.{mr1Of}
 use Rattle.draws.proofs.draws.mr1_from.Statement.{statement}
 use Rattle.draws.proofs.draws.mr1_from.Tie as tie

@@ -1,5 +1,5 @@
 -- `weighed` meets its contract: each way through the tests is the definition's. Assumes nothing.
-use Rattle.frame.proofs.Laws.{steps}
+use Rattle.format.proofs.Laws.{steps}
 use Rattle.draws.specs.Draws.{weighedOf}
 use Rattle.draws.proofs.draws.weighed.Statement.{statement}
 use Rattle.draws.proofs.draws.weighed.Tie as tie

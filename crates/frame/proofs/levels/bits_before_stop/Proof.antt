@@ -1,8 +1,8 @@
 -- `bits_before_stop` meets its contract: MR1 chooses at most 8 data bits, so both sums fit. Assumes nothing.
 use borrow.Author.Needs.{needs}
 use Rattle.frame.specs.Levels.{bitsBeforeStopOf}
-use Rattle.frame.specs.Format.{formatOf}
-use Rattle.frame.proofs.Laws.{steps}
+use Rattle.format.specs.Format.{formatOf}
+use Rattle.format.proofs.Laws.{steps}
 use Rattle.frame.proofs.levels.bits_before_stop.Statement.{statement}
 use Rattle.frame.proofs.levels.bits_before_stop.Tie as tie
 

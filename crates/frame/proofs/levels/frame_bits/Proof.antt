@@ -5,7 +5,7 @@ use mathlib.Core.Path.{_≡_, sym, ap₂, _∙_}
 use mathlib.Core.Bool.{Bool, true, false, not, _&&_}
 use native.Mathlib.Omega.{arith}
 use borrow.Author.Needs.{needs}
-use Rattle.frame.proofs.Laws.Format.{width-most}
+use Rattle.format.proofs.Laws.Format.{width-most}
 use Rattle.frame.proofs.Laws.Register.{Weight, weight, parityLow, register-eq, register-high, register-low}
 use Rattle.frame.proofs.levels.frame_bits.Statement.{statement}
 use Rattle.frame.proofs.levels.frame_bits.Tie as tie

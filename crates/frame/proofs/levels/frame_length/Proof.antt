@@ -4,9 +4,9 @@ use native.Mathlib.Nat.{one-mul}
 use native.Mathlib.Omega.{arith}
 use borrow.Author.Needs.{needs}
 use Rattle.frame.specs.Levels.{frameLengthOf}
-use Rattle.frame.specs.Pick.{pick}
+use Rattle.format.specs.Pick.{pick}
 use Rattle.frame.proofs.Laws.Levels.{before-stop-most}
-use Rattle.frame.proofs.Laws.Stop.{stop-most, bits-most}
+use Rattle.format.proofs.Laws.Stop.{stop-most, bits-most}
 use Rattle.frame.proofs.levels.frame_length.Statement.{statement}
 use Rattle.frame.proofs.levels.frame_length.Tie as tie
 

@@ -1,7 +1,7 @@
 -- `level_of` meets its contract: within the register its bit, and past it high. Assumes nothing.
 use borrow.Author.Needs.{needs}
 use Rattle.frame.specs.Levels.{levelOf}
-use Rattle.frame.proofs.Laws.{steps}
+use Rattle.format.proofs.Laws.{steps}
 use Rattle.frame.proofs.levels.level_of.Statement.{statement}
 use Rattle.frame.proofs.levels.level_of.Tie as tie
 

@@ -1,5 +1,5 @@
 -- `put` meets its contract: each count fills the definition's place. Assumes nothing.
-use Rattle.frame.proofs.Laws.{steps}
+use Rattle.format.proofs.Laws.{steps}
 use Rattle.queue.specs.Queue.{putOf}
 use Rattle.queue.proofs.queue.put.Statement.{statement}
 use Rattle.queue.proofs.queue.put.Tie as tie

@@ -1,6 +1,6 @@
 -- `remove_waiting` meets its contract: the callee's test chooses, as the definition's does. Assumes nothing.
 use borrow.Author.Needs.{needs}
-use Rattle.frame.proofs.Laws.{steps}
+use Rattle.format.proofs.Laws.{steps}
 use Rattle.queue.specs.Queue.{withoutWaitingOf}
 use Rattle.queue.proofs.queue.remove_waiting.Statement.{statement}
 use Rattle.queue.proofs.queue.remove_waiting.Tie as tie

@@ -1,6 +1,6 @@
 -- `take_oldest` meets its contract: each place takes over the next one's character. Assumes nothing.
 use borrow.Author.Needs.{needs}
-use Rattle.frame.proofs.Laws.{steps}
+use Rattle.format.proofs.Laws.{steps}
 use Rattle.queue.specs.Queue.{tookOf}
 use Rattle.queue.proofs.queue.take_oldest.Statement.{statement}
 use Rattle.queue.proofs.queue.take_oldest.Tie as tie

@@ -1,6 +1,6 @@
 -- `enter` meets its contract: the callee's test chooses whether the sums grow. Assumes nothing.
 use borrow.Author.Needs.{needs}
-use Rattle.frame.proofs.Laws.{steps}
+use Rattle.format.proofs.Laws.{steps}
 use Rattle.receiver.specs.Receiver.{enteredOf}
 use Rattle.receiver.proofs.receiver.enter.Statement.{statement}
 use Rattle.receiver.proofs.receiver.enter.Tie as tie

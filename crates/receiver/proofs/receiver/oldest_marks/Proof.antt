@@ -1,6 +1,6 @@
 -- `oldest_marks` meets its contract: the callee's test chooses, as the definition's does. Assumes nothing.
 use borrow.Author.Needs.{needs}
-use Rattle.frame.proofs.Laws.{steps}
+use Rattle.format.proofs.Laws.{steps}
 use Rattle.receiver.specs.Receiver.{oldestMarks}
 use Rattle.receiver.proofs.receiver.oldest_marks.Statement.{statement}
 use Rattle.receiver.proofs.receiver.oldest_marks.Tie as tie

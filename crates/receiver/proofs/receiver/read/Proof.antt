@@ -1,6 +1,6 @@
 -- `read` meets its contract: the callee's test chooses, as the definition's does. Assumes nothing.
 use borrow.Author.Needs.{needs}
-use Rattle.frame.proofs.Laws.{steps}
+use Rattle.format.proofs.Laws.{steps}
 use Rattle.receiver.specs.Receiver.{readOf}
 use Rattle.receiver.proofs.receiver.read.Statement.{statement}
 use Rattle.receiver.proofs.receiver.read.Tie as tie

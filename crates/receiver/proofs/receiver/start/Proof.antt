@@ -1,6 +1,6 @@
 -- `start` meets its contract: the queue and what is said of overrun are the callees'. Assumes nothing.
 use borrow.Author.Needs.{needs}
-use Rattle.frame.proofs.Laws.{steps}
+use Rattle.format.proofs.Laws.{steps}
 use Rattle.receiver.specs.Receiver.{startedOf}
 use Rattle.receiver.proofs.receiver.start.Statement.{statement}
 use Rattle.receiver.proofs.receiver.start.Tie as tie

@@ -1,6 +1,6 @@
 -- `shown_marks` meets its contract: the two answers are the definition's. Assumes nothing.
 use borrow.Author.Needs.{needs}
-use Rattle.frame.proofs.Laws.{steps}
+use Rattle.format.proofs.Laws.{steps}
 use Rattle.receiver.specs.Status.{shownMarks}
 use Rattle.receiver.proofs.status.shown_marks.Statement.{statement}
 use Rattle.receiver.proofs.status.shown_marks.Tie as tie

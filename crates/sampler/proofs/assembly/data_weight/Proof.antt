@@ -2,7 +2,7 @@
 use Prim.Native.Nat.{_≤_}
 use native.Mathlib.Omega.{arith}
 use borrow.Author.Needs.{needs}
-use Rattle.frame.proofs.Laws.Digits.{power}
+use Rattle.format.proofs.Laws.Digits.{power}
 use Rattle.sampler.proofs.Laws.Assembly.{width-eight}
 use Rattle.sampler.proofs.assembly.data_weight.Statement.{statement}
 use Rattle.sampler.proofs.assembly.data_weight.Tie as tie

@@ -1,5 +1,5 @@
 -- `data_width` meets its contract: a width below 8 is itself, any other goes with 8. Assumes nothing.
-use Rattle.frame.proofs.Laws.{steps}
+use Rattle.format.proofs.Laws.{steps}
 use Rattle.sampler.specs.Assembly.{dataWidthOf}
 use Rattle.sampler.proofs.assembly.data_width.Statement.{statement}
 use Rattle.sampler.proofs.assembly.data_width.Tie as tie

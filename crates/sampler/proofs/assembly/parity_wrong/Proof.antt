@@ -1,7 +1,7 @@
 -- `parity_wrong` meets its contract: each way through the tests is the definition's; a power of two is no zero to divide by. Assumes nothing.
 use lib.Pow.{pow-pos}
 use borrow.Author.Needs.{needs}
-use Rattle.frame.proofs.Laws.{steps}
+use Rattle.format.proofs.Laws.{steps}
 use Rattle.sampler.specs.Assembly.{parityWrongOf}
 use Rattle.sampler.proofs.assembly.parity_wrong.Statement.{statement}
 use Rattle.sampler.proofs.assembly.parity_wrong.Tie as tie

@@ -2,7 +2,7 @@
 use Prim.Native.Nat.{_≤_}
 use native.Mathlib.Omega.{arith}
 use borrow.Author.Needs.{needs}
-use Rattle.frame.proofs.Laws.{steps}
+use Rattle.format.proofs.Laws.{steps}
 use Rattle.sampler.specs.Assembly.{samplesOf}
 use Rattle.sampler.proofs.Laws.Assembly.{width-eight}
 use Rattle.sampler.proofs.assembly.samples_before_stop.Statement.{statement}

@@ -1,6 +1,6 @@
 -- `follow_low_stop` meets its contract: each way through the tests is the definition's, with the callee's answer. Assumes nothing.
 use borrow.Author.Needs.{needs}
-use Rattle.frame.proofs.Laws.{steps}
+use Rattle.format.proofs.Laws.{steps}
 use Rattle.sampler.specs.Sampler.{followed}
 use Rattle.sampler.proofs.sampler.follow_low_stop.Statement.{statement}
 use Rattle.sampler.proofs.sampler.follow_low_stop.Tie as tie

@@ -1,6 +1,6 @@
 -- `hunt` meets its contract: each way through the tests is the definition's, with the callee's answer. Assumes nothing.
 use borrow.Author.Needs.{needs}
-use Rattle.frame.proofs.Laws.{steps}
+use Rattle.format.proofs.Laws.{steps}
 use Rattle.sampler.specs.Sampler.{hunted}
 use Rattle.sampler.proofs.sampler.hunt.Statement.{statement}
 use Rattle.sampler.proofs.sampler.hunt.Tie as tie

@@ -1,6 +1,6 @@
 -- `look_again` meets its contract: each way through the tests is the definition's, with the callee's answer. Assumes nothing.
 use borrow.Author.Needs.{needs}
-use Rattle.frame.proofs.Laws.{steps}
+use Rattle.format.proofs.Laws.{steps}
 use Rattle.sampler.specs.Sampler.{lookedAgain}
 use Rattle.sampler.proofs.sampler.look_again.Statement.{statement}
 use Rattle.sampler.proofs.sampler.look_again.Tie as tie

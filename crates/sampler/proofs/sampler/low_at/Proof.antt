@@ -1,6 +1,6 @@
 -- `low_at` meets its contract: 16X or 1X, each the callee's answer. Assumes nothing.
 use borrow.Author.Needs.{needs}
-use Rattle.frame.proofs.Laws.{steps}
+use Rattle.format.proofs.Laws.{steps}
 use Rattle.sampler.specs.Sampler.{lowAt}
 use Rattle.sampler.proofs.sampler.low_at.Statement.{statement}
 use Rattle.sampler.proofs.sampler.low_at.Tie as tie

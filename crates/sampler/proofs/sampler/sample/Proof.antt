@@ -1,6 +1,6 @@
 -- `sample` meets its contract: the phase chooses the rule, and the answer is the callee's. Assumes nothing.
 use borrow.Author.Needs.{needs}
-use Rattle.frame.proofs.Laws.{steps}
+use Rattle.format.proofs.Laws.{steps}
 use Rattle.sampler.specs.Sampler.{sampleOf}
 use Rattle.sampler.proofs.sampler.sample.Statement.{statement}
 use Rattle.sampler.proofs.sampler.sample.Tie as tie

@@ -5,8 +5,8 @@ use native.Mathlib.Omega.{arith}
 use native.Mathlib.Nat.{mod-lt}
 use lib.Pow.{pow-pos, pow-mono}
 use borrow.Author.Needs.{needs}
-use Rattle.frame.proofs.Laws.Digits.{power}
-use Rattle.frame.proofs.Laws.{steps}
+use Rattle.format.proofs.Laws.Digits.{power}
+use Rattle.format.proofs.Laws.{steps}
 use Rattle.sampler.specs.Assembly.{withSample}
 use Rattle.sampler.specs.Sampler.{sampled}
 use Rattle.sampler.proofs.Laws.Assembly.{samples-most}

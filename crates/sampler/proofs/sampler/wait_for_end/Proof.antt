@@ -1,6 +1,6 @@
 -- `wait_for_end` meets its contract: each way through the tests is the definition's, with the callee's answer. Assumes nothing.
 use borrow.Author.Needs.{needs}
-use Rattle.frame.proofs.Laws.{steps}
+use Rattle.format.proofs.Laws.{steps}
 use Rattle.sampler.specs.Sampler.{waited}
 use Rattle.sampler.proofs.sampler.wait_for_end.Statement.{statement}
 use Rattle.sampler.proofs.sampler.wait_for_end.Tie as tie

@@ -1,6 +1,6 @@
 -- `after_stop` meets its contract: each way through the tests is the definition's, with the callee's sampler. Assumes nothing.
 use borrow.Author.Needs.{needs}
-use Rattle.frame.proofs.Laws.{steps}
+use Rattle.format.proofs.Laws.{steps}
 use Rattle.sampler.specs.State.{afterStop}
 use Rattle.sampler.proofs.state.after_stop.Statement.{statement}
 use Rattle.sampler.proofs.state.after_stop.Tie as tie

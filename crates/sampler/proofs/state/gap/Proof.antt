@@ -1,5 +1,5 @@
 -- `gap` meets its contract: the two answers are the definition's. Assumes nothing.
-use Rattle.frame.proofs.Laws.{steps}
+use Rattle.format.proofs.Laws.{steps}
 use Rattle.sampler.specs.State.{gapOf}
 use Rattle.sampler.proofs.state.gap.Statement.{statement}
 use Rattle.sampler.proofs.state.gap.Tie as tie

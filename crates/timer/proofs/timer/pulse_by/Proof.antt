@@ -1,6 +1,6 @@
 -- `pulse_by` meets its contract: each way through the tests is the definition's, with the callee's answer. Assumes nothing.
 use borrow.Author.Needs.{needs}
-use Rattle.frame.proofs.Laws.{steps}
+use Rattle.format.proofs.Laws.{steps}
 use Rattle.timer.specs.Timer.{pulsedBy}
 use Rattle.timer.proofs.timer.pulse_by.Statement.{statement}
 use Rattle.timer.proofs.timer.pulse_by.Tie as tie

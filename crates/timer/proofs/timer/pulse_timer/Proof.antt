@@ -1,6 +1,6 @@
 -- `pulse_timer` meets its contract: each way through the tests is the definition's, with the callee's answer. Assumes nothing.
 use borrow.Author.Needs.{needs}
-use Rattle.frame.proofs.Laws.{steps}
+use Rattle.format.proofs.Laws.{steps}
 use Rattle.timer.specs.Timer.{timerPulsed}
 use Rattle.timer.proofs.timer.pulse_timer.Statement.{statement}
 use Rattle.timer.proofs.timer.pulse_timer.Tie as tie

@@ -1,6 +1,6 @@
 -- `stop_counter` meets its contract: each way through the tests is the definition's, with the callee's answer. Assumes nothing.
 use borrow.Author.Needs.{needs}
-use Rattle.frame.proofs.Laws.{steps}
+use Rattle.format.proofs.Laws.{steps}
 use Rattle.timer.specs.Timer.{stoppedOf}
 use Rattle.timer.proofs.timer.stop_counter.Statement.{statement}
 use Rattle.timer.proofs.timer.stop_counter.Tie as tie

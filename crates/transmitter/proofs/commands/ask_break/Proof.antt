@@ -1,5 +1,5 @@
 -- `ask_break` meets its contract: each way through the tests is the definition's. Assumes nothing.
-use Rattle.frame.proofs.Laws.{steps}
+use Rattle.format.proofs.Laws.{steps}
 use Rattle.transmitter.specs.Commands.{breakAsked}
 use Rattle.transmitter.proofs.commands.ask_break.Statement.{statement}
 use Rattle.transmitter.proofs.commands.ask_break.Tie as tie

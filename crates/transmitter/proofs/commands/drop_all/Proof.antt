@@ -1,6 +1,6 @@
 -- `drop_all` meets its contract: each way through the tests is the definition's, with the callee's answer. Assumes nothing.
 use borrow.Author.Needs.{needs}
-use Rattle.frame.proofs.Laws.{steps}
+use Rattle.format.proofs.Laws.{steps}
 use Rattle.transmitter.specs.Commands.{droppedOf}
 use Rattle.transmitter.proofs.commands.drop_all.Statement.{statement}
 use Rattle.transmitter.proofs.commands.drop_all.Tie as tie

@@ -1,6 +1,6 @@
 -- `end_break` meets its contract: each way through the tests is the definition's, with the callee's answer. Assumes nothing.
 use borrow.Author.Needs.{needs}
-use Rattle.frame.proofs.Laws.{steps}
+use Rattle.format.proofs.Laws.{steps}
 use Rattle.transmitter.specs.Commands.{breakEnded}
 use Rattle.transmitter.proofs.commands.end_break.Statement.{statement}
 use Rattle.transmitter.proofs.commands.end_break.Tie as tie

@@ -1,5 +1,5 @@
 -- `write` meets its contract: each way through the tests is the definition's. Assumes nothing.
-use Rattle.frame.proofs.Laws.{steps}
+use Rattle.format.proofs.Laws.{steps}
 use Rattle.transmitter.specs.Commands.{writtenOf}
 use Rattle.transmitter.proofs.commands.write.Statement.{statement}
 use Rattle.transmitter.proofs.commands.write.Tie as tie

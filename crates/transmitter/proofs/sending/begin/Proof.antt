@@ -1,6 +1,6 @@
 -- `begin` meets its contract: each way through the tests is the definition's, with the callee's answer. Assumes nothing.
 use borrow.Author.Needs.{needs}
-use Rattle.frame.proofs.Laws.{steps}
+use Rattle.format.proofs.Laws.{steps}
 use Rattle.transmitter.specs.Sending.{begunOf}
 use Rattle.transmitter.proofs.sending.begin.Statement.{statement}
 use Rattle.transmitter.proofs.sending.begin.Tie as tie

@@ -1,6 +1,6 @@
 -- `hold_high` meets its contract: each way through the tests is the definition's, with the callee's answer. Assumes nothing.
 use borrow.Author.Needs.{needs}
-use Rattle.frame.proofs.Laws.{steps}
+use Rattle.format.proofs.Laws.{steps}
 use Rattle.transmitter.specs.Sending.{heldHigh}
 use Rattle.transmitter.proofs.sending.hold_high.Statement.{statement}
 use Rattle.transmitter.proofs.sending.hold_high.Tie as tie

@@ -1,6 +1,6 @@
 -- `send_on` meets its contract: each way through the tests is the definition's, with the callee's answer. Assumes nothing.
 use borrow.Author.Needs.{needs}
-use Rattle.frame.proofs.Laws.{steps}
+use Rattle.format.proofs.Laws.{steps}
 use Rattle.transmitter.specs.Sending.{sentOnOf}
 use Rattle.transmitter.proofs.sending.send_on.Statement.{statement}
 use Rattle.transmitter.proofs.sending.send_on.Tie as tie

@@ -1,0 +1,2 @@
+-- The laws of the frame request. Assumes nothing.
+pub mod Request

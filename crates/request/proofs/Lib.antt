@@ -1,0 +1,2 @@
+-- The laws of the frame request.
+pub mod Laws

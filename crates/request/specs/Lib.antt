@@ -1,0 +1,2 @@
+-- What a reader must believe of the frame request.
+pub mod Request
