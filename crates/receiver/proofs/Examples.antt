@@ -8,9 +8,9 @@ use lib.ListN.{replicate}
 use Rattle.format.specs.declared.format.Format.{Format}
 use Rattle.format.specs.Digits.{bitsOf}
 use Rattle.format.specs.Format.{formatOf}
-use Rattle.frame.specs.Levels.{beforeStop, spread, levels}
 use Rattle.format.specs.Parity.{parityBits}
 use Rattle.format.specs.Pick.{pick}
+use Rattle.frame.specs.Levels.{beforeStop, spread, levels}
 use Rattle.character.specs.declared.character.Character.{Character}
 use Rattle.character.specs.Character.{noMarks}
 use Rattle.sampler.specs.Assembly.{dataWidthOf, samplesOf, withSample, characterOf, parityWrongOf}
@@ -18,14 +18,15 @@ use Rattle.sampler.specs.Lines.{at16}
 use Rattle.sampler.specs.State.{gapOf, afterStop}
 use Rattle.sampler.specs.Sampler.{lowAt, hunted, lookedAgain, finished, sampled, assembled, sampleOf}
 use Rattle.queue.specs.Queue.{heldOf, waitsOf, putOf, withoutWaitingOf, tookOf}
+use Rattle.arrivals.specs.declared.arrivals.Receiver.{Receiver}
+use Rattle.arrivals.specs.Arrivals.{freshReceiver, oldestMarks, startedOf, enteredOf, arrivedOf, pulsedOf}
 use Rattle.receiver.specs.declared.receiver.Effect.the-variants.{NoEffect, Reset}
 use Rattle.receiver.specs.declared.receiver.Feed.{Feed}
 use Rattle.receiver.specs.declared.receiver.Feed.the-variants.{Pulse, Command, Read}
-use Rattle.receiver.specs.declared.receiver.Receiver.{Receiver}
 use Rattle.receiver.specs.declared.receiver.Enabling.the-variants.{Stays, Enables}
 use Rattle.receiver.specs.Delivery.{after, given, reads}
 use Rattle.receiver.specs.ReadBack.{pulses, sentAll, Idle}
-use Rattle.receiver.specs.Receiver.{freshReceiver, oldestMarks, startedOf, enteredOf, arrivedOf, pulsedOf, effectOf, enablingOf, oldestRead, readOf, fedOf}
+use Rattle.receiver.specs.Receiver.{effectOf, enablingOf, oldestRead, readOf, fedOf}
 use Rattle.receiver.specs.Sound.{waitingSound}
 use Rattle.receiver.specs.Status.{shownMarks, statusOf}
 

@@ -11,9 +11,9 @@ use Rattle.format.specs.Pick.{pick}
 use Rattle.format.specs.Digits.{cutOf}
 use Rattle.format.specs.Format.{formatOf}
 use Rattle.format.specs.Stop.{stopLengthOf}
-use Rattle.frame.specs.Levels.{beforeStop, spread, levels, frame}
 use Rattle.format.proofs.Laws.Format.{width-most}
 use Rattle.format.proofs.Laws.Stop.{stop-least}
+use Rattle.frame.specs.Levels.{beforeStop, spread, levels, frame}
 use Rattle.character.specs.declared.character.Character.{Character}
 use Rattle.character.specs.Character.{clean}
 use Rattle.sampler.specs.declared.sampler.Came.{Came}
@@ -29,12 +29,13 @@ use Rattle.sampler.proofs.Laws.Heard.Said.{changes, began, came}
 use Rattle.queue.specs.declared.queue.Queue.{Queue}
 use Rattle.queue.specs.Queue.{heldOf, withoutWaitingOf}
 use Rattle.queue.proofs.Laws.Queue.{held-put, held-without-waiting, is-empty-held, without-waiting-count}
+use Rattle.arrivals.specs.declared.arrivals.Receiver.{Receiver}
+use Rattle.arrivals.specs.Arrivals.{withSampler, withChange, heardOf, startedOf, enteredOf, arrivedOf, pulsedOf}
 use Rattle.receiver.specs.declared.receiver.Feed.{Feed}
-use Rattle.receiver.specs.declared.receiver.Receiver.{Receiver}
 use Rattle.receiver.specs.Status.{statusOf}
 use Rattle.receiver.specs.Delivery.{linesOf, linesOver, after}
 use Rattle.receiver.specs.ReadBack.{pulses, sent, sentAll, Idle, ReadBack, ReadBackAll, ReadsBack}
-use Rattle.receiver.specs.Receiver.{withSampler, withChange, heardOf, startedOf, enteredOf, arrivedOf, pulsedOf, fedOf}
+use Rattle.receiver.specs.Receiver.{fedOf}
 use Rattle.receiver.proofs.Laws.Waiting.{answered-sampler}
 use Rattle.receiver.proofs.Delivery.{given-held}
 

@@ -9,9 +9,9 @@ use native.Mathlib.Omega.{arith}
 use lib.ListN.{length, getD, replicate}
 use Rattle.format.specs.declared.format.Format.{Format}
 use Rattle.format.specs.Digits.{bitsOf}
-use Rattle.frame.specs.Levels.{beforeStop, spread, levels}
 use Rattle.format.specs.Parity.{parityBits}
 use Rattle.format.specs.Pick.{pick}
+use Rattle.frame.specs.Levels.{beforeStop, spread, levels}
 use Rattle.character.specs.declared.character.Character.{Character}
 use Rattle.character.specs.declared.character.Marks.{Marks}
 use Rattle.character.specs.Character.{noCharacter, noMarks}
@@ -21,17 +21,18 @@ use Rattle.sampler.specs.State.{gapOf, afterStop, hunting, starting}
 use Rattle.sampler.specs.Sampler.{waited, lowAt, hunted, lookedAgain, finished, sampled, assembled, sampleOf}
 use Rattle.queue.specs.declared.queue.Queue.{Queue}
 use Rattle.queue.specs.Queue.{heldOf, emptyQueue, waitsOf, putOf, withoutWaitingOf, tookOf}
+use Rattle.arrivals.specs.declared.arrivals.Receiver.{Receiver}
+use Rattle.arrivals.specs.Arrivals.{withSampler, withChange, withQueue, freshReceiver, startedOf, enteredOf, arrivedOf, pulsedOf}
 use Rattle.receiver.specs.declared.receiver.Effect.the-variants.{NoEffect, Reset, ClearErrors, ClearBreakChange}
 use Rattle.receiver.specs.declared.receiver.Fed.{Fed}
 use Rattle.receiver.specs.declared.receiver.Feed.{Feed}
 use Rattle.receiver.specs.declared.receiver.Feed.the-variants.{Nothing, Pulse, Command, Read, ChipReset}
 use Rattle.receiver.specs.declared.receiver.Enabling.the-variants.{Stays, Enables, Disables}
-use Rattle.receiver.specs.declared.receiver.Receiver.{Receiver}
 use Rattle.receiver.specs.Delivery.{Fate, written, ledgerFrom, Step, Show, after, given, reads, Delivers}
 use Rattle.receiver.specs.Delivery.Fate.{Held}
 use Rattle.receiver.specs.ReadBack.{pulses, sentAll, ReadsBack}
 use Rattle.receiver.specs.Sound.{KeepsSound}
-use Rattle.receiver.specs.Receiver.{unread, withSampler, withChange, withQueue, effectOf, enablingOf, freshReceiver, startedOf, enteredOf, arrivedOf, pulsedOf, oldestRead, readOf, fedOf}
+use Rattle.receiver.specs.Receiver.{unread, effectOf, enablingOf, oldestRead, readOf, fedOf}
 use Rattle.receiver.specs.Status.{statusOf}
 
 -- what a feed leaves, with another queue

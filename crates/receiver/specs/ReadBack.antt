@@ -13,9 +13,9 @@ use Rattle.sampler.specs.declared.state.Sampler.{Sampler}
 use Rattle.sampler.specs.declared.state.Setting.{Setting}
 use Rattle.sampler.specs.Lines.{at16, afterLines, arrivals}
 use Rattle.queue.specs.Queue.{heldOf}
+use Rattle.arrivals.specs.declared.arrivals.Receiver.{Receiver}
 use Rattle.receiver.specs.declared.receiver.Feed.{Feed}
 use Rattle.receiver.specs.declared.receiver.Feed.the-variants.{Pulse, Read}
-use Rattle.receiver.specs.declared.receiver.Receiver.{Receiver}
 use Rattle.receiver.specs.Delivery.{linesOver, Step, Show, after, given}
 
 -- levels, one a pulse

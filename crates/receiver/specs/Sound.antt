@@ -8,9 +8,9 @@ use lib.Dec.{eqb}
 use Rattle.sampler.specs.Sound.{settingInRange, samplerInRange}
 use Rattle.queue.specs.Queue.{waitsOf}
 use Rattle.queue.specs.Sound.{queueInRange}
+use Rattle.arrivals.specs.declared.arrivals.Receiver.{Receiver}
 use Rattle.receiver.specs.declared.receiver.Feed.{Feed}
 use Rattle.receiver.specs.declared.receiver.Feed.the-variants.{Nothing, Pulse, Command, Read, ChipReset}
-use Rattle.receiver.specs.declared.receiver.Receiver.{Receiver}
 use Rattle.receiver.specs.Delivery.{Step}
 
 abbrev pub receiverInRange : Receiver → Bool

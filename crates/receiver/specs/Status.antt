@@ -3,9 +3,9 @@ use mathlib.Core.Bool.{Bool, not}
 use Rattle.format.specs.Pick.{pick}
 use Rattle.character.specs.declared.character.Marks.{Marks}
 use Rattle.queue.specs.Queue.{isEmptyOf, isFullOf}
-use Rattle.receiver.specs.declared.receiver.Receiver.{Receiver}
+use Rattle.arrivals.specs.declared.arrivals.Receiver.{Receiver}
+use Rattle.arrivals.specs.Arrivals.{oldestMarks}
 use Rattle.receiver.specs.declared.status.Status.{Status}
-use Rattle.receiver.specs.Receiver.{oldestMarks}
 
 -- "Character errors: SR 7-5 show the oldest's marks, 0 if none. Block: the marks, each bit ORed, of all that became oldest since
 -- command 4 or a chip reset."

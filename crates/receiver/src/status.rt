@@ -1,6 +1,6 @@
 // What a receiver shows of itself in the status register.
-use crate::receiver::Receiver;
-use crate::receiver::oldest_marks;
+use arrivals::Receiver;
+use arrivals::oldest_marks;
 use character::Marks;
 use queue::is_empty;
 use queue::is_full;

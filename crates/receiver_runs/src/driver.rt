@@ -1,7 +1,7 @@
 // The receiver that is driven, the numbers that choose, and the sums over what it shows.
+use arrivals::Receiver;
 use draws::weighed;
 use receiver::Feed;
-use receiver::Receiver;
 use receiver::feed_receiver;
 use receiver::show_status;
 use sampler::Setting;

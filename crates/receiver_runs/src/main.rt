@@ -5,12 +5,12 @@ mod driver;
 mod quiet;
 mod sends;
 
+use arrivals::fresh_receiver;
 use driver::Driver;
 use driver::drawn;
 use driver::next;
 use libc::STDOUT_FILENO;
 use quiet::step_quiet;
-use receiver::fresh_receiver;
 use sends::send_break;
 use sends::send_frame;
 use sends::send_level;

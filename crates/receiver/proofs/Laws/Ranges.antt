@@ -15,15 +15,16 @@ use Rattle.sampler.specs.Sound.{settingInRange, samplerInRange}
 use Rattle.sampler.proofs.Laws.Ranges.{sample-keeps, hunting-keeps}
 use Rattle.queue.specs.Queue.{isEmptyOf}
 use Rattle.queue.proofs.Laws.Queue.{put-four, without-waiting-count, took-count}
+use Rattle.arrivals.specs.declared.arrivals.Receiver.{Receiver}
+use Rattle.arrivals.specs.Arrivals.{heardOf, startedOf, enteredOf, arrivedOf, pulsedOf}
 use Rattle.receiver.specs.declared.receiver.Effect.{Effect}
 use Rattle.receiver.specs.declared.receiver.Effect.the-variants.{NoEffect, Reset, ClearErrors, ClearBreakChange}
 use Rattle.receiver.specs.declared.receiver.Fed.{Fed}
 use Rattle.receiver.specs.declared.receiver.Feed.{Feed}
 use Rattle.receiver.specs.declared.receiver.Feed.the-variants.{Nothing, Pulse, Command, Read, ChipReset}
-use Rattle.receiver.specs.declared.receiver.Receiver.{Receiver}
 use Rattle.receiver.specs.declared.receiver.Enabling.{Enabling}
 use Rattle.receiver.specs.declared.receiver.Enabling.the-variants.{Stays, Enables, Disables}
-use Rattle.receiver.specs.Receiver.{heardOf, startedOf, enteredOf, arrivedOf, pulsedOf, effectOf, enablingOf, oldestRead, readOf, fedOf}
+use Rattle.receiver.specs.Receiver.{effectOf, enablingOf, oldestRead, readOf, fedOf}
 use Rattle.receiver.specs.Sound.{receiverInRange, feedInRange}
 
 record Inside (r : Receiver) : Type 0 where

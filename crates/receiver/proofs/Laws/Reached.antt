@@ -5,10 +5,11 @@ use mathlib.Core.List.{List, [], _∷_}
 use Rattle.format.specs.Format.{formatOf}
 use Rattle.sampler.specs.Sound.{samplerInRange}
 use Rattle.queue.specs.Sound.{queueInRange}
+use Rattle.arrivals.specs.declared.arrivals.Receiver.{Receiver}
+use Rattle.arrivals.specs.Arrivals.{freshReceiver}
 use Rattle.receiver.specs.declared.receiver.Feed.{Feed}
 use Rattle.receiver.specs.declared.receiver.Feed.the-variants.{ChipReset}
-use Rattle.receiver.specs.declared.receiver.Receiver.{Receiver}
-use Rattle.receiver.specs.Receiver.{freshReceiver, fedOf}
+use Rattle.receiver.specs.Receiver.{fedOf}
 use Rattle.receiver.specs.Delivery.{after}
 use Rattle.receiver.specs.Sound.{feedInRange, feedsInRange, Sound, KeepsSound}
 use Rattle.receiver.proofs.Laws.Ranges.{ranges-kept}

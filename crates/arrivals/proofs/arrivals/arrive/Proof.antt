@@ -1,8 +1,8 @@
 -- `arrive` meets its contract: one arm a case of the sampler's answer. Assumes nothing.
 use borrow.Author.Needs.{needs}
-use Rattle.receiver.specs.Receiver.{arrivedOf}
-use Rattle.receiver.proofs.receiver.arrive.Statement.{statement}
-use Rattle.receiver.proofs.receiver.arrive.Tie as tie
+use Rattle.arrivals.specs.Arrivals.{arrivedOf}
+use Rattle.arrivals.proofs.arrivals.arrive.Statement.{statement}
+use Rattle.arrivals.proofs.arrivals.arrive.Tie as tie
 
 enum-told : tie.Need-enum-told
 enum-told c = search needs

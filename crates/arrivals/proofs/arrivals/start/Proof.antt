@@ -1,9 +1,9 @@
 -- `start` meets its contract: the queue and what is said of overrun are the callees'. Assumes nothing.
 use borrow.Author.Needs.{needs}
 use Rattle.format.proofs.Laws.{steps}
-use Rattle.receiver.specs.Receiver.{startedOf}
-use Rattle.receiver.proofs.receiver.start.Statement.{statement}
-use Rattle.receiver.proofs.receiver.start.Tie as tie
+use Rattle.arrivals.specs.Arrivals.{startedOf}
+use Rattle.arrivals.proofs.arrivals.start.Statement.{statement}
+use Rattle.arrivals.proofs.arrivals.start.Tie as tie
 
 remove-waiting-requires : tie.Need-remove-waiting-requires
 remove-waiting-requires c κs = search needs

@@ -1,9 +1,9 @@
 -- `oldest_marks` meets its contract: the callee's test chooses, as the definition's does. Assumes nothing.
 use borrow.Author.Needs.{needs}
 use Rattle.format.proofs.Laws.{steps}
-use Rattle.receiver.specs.Receiver.{oldestMarks}
-use Rattle.receiver.proofs.receiver.oldest_marks.Statement.{statement}
-use Rattle.receiver.proofs.receiver.oldest_marks.Tie as tie
+use Rattle.arrivals.specs.Arrivals.{oldestMarks}
+use Rattle.arrivals.proofs.arrivals.oldest_marks.Statement.{statement}
+use Rattle.arrivals.proofs.arrivals.oldest_marks.Tie as tie
 
 is-empty-requires : tie.Need-is-empty-requires
 is-empty-requires c κs = search needs

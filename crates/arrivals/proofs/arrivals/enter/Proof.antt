@@ -1,9 +1,9 @@
 -- `enter` meets its contract: the callee's test chooses whether the sums grow. Assumes nothing.
 use borrow.Author.Needs.{needs}
 use Rattle.format.proofs.Laws.{steps}
-use Rattle.receiver.specs.Receiver.{enteredOf}
-use Rattle.receiver.proofs.receiver.enter.Statement.{statement}
-use Rattle.receiver.proofs.receiver.enter.Tie as tie
+use Rattle.arrivals.specs.Arrivals.{enteredOf}
+use Rattle.arrivals.proofs.arrivals.enter.Statement.{statement}
+use Rattle.arrivals.proofs.arrivals.enter.Tie as tie
 
 put-requires : tie.Need-put-requires
 put-requires c κs = search needs

@@ -1,7 +1,7 @@
 -- `fresh_receiver` meets its contract: every part is the callee's, the rest zero. Assumes nothing.
 use borrow.Author.Needs.{needs}
-use Rattle.receiver.proofs.receiver.fresh_receiver.Statement.{statement}
-use Rattle.receiver.proofs.receiver.fresh_receiver.Tie as tie
+use Rattle.arrivals.proofs.arrivals.fresh_receiver.Statement.{statement}
+use Rattle.arrivals.proofs.arrivals.fresh_receiver.Tie as tie
 
 drop-assembly-requires : tie.Need-drop-assembly-requires
 drop-assembly-requires c κs = search needs

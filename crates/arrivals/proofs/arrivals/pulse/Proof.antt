@@ -1,8 +1,8 @@
 -- `pulse` meets its contract: the sampler's answer goes through the three callees in turn. Assumes nothing.
 use borrow.Author.Needs.{needs}
-use Rattle.receiver.specs.Receiver.{pulsedOf}
-use Rattle.receiver.proofs.receiver.pulse.Statement.{statement}
-use Rattle.receiver.proofs.receiver.pulse.Tie as tie
+use Rattle.arrivals.specs.Arrivals.{pulsedOf}
+use Rattle.arrivals.proofs.arrivals.pulse.Statement.{statement}
+use Rattle.arrivals.proofs.arrivals.pulse.Tie as tie
 
 sample-requires : tie.Need-sample-requires
 sample-requires c κs = search needs
