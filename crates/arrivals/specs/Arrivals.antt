@@ -5,12 +5,12 @@ use Rattle.format.specs.Pick.{pick}
 use Rattle.character.specs.declared.character.Character.{Character}
 use Rattle.character.specs.declared.character.Marks.{Marks}
 use Rattle.character.specs.Character.{noMarks, orMarks}
+use Rattle.assembly.specs.declared.state.Sampler.{Sampler}
+use Rattle.assembly.specs.declared.state.Setting.{Setting}
+use Rattle.assembly.specs.State.{hunting}
 use Rattle.sampler.specs.declared.sampler.Came.{Came}
 use Rattle.sampler.specs.declared.sampler.Came.the-variants.{NoCharacter, Arrival}
 use Rattle.sampler.specs.declared.sampler.Sampled.{Sampled}
-use Rattle.sampler.specs.declared.state.Sampler.{Sampler}
-use Rattle.sampler.specs.declared.state.Setting.{Setting}
-use Rattle.sampler.specs.State.{hunting}
 use Rattle.sampler.specs.Sampler.{sampleOf}
 use Rattle.queue.specs.declared.queue.Queue.{Queue}
 use Rattle.queue.specs.Queue.{emptyQueue, isEmptyOf, oldestOf, waitsOf, putOf, withoutWaitingOf}

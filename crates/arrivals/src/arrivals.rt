@@ -1,4 +1,7 @@
 // One receiver: sampler and queue side by side, and what a pulse does to it.
+use assembly::Sampler;
+use assembly::Setting;
+use assembly::drop_assembly;
 use character::Character;
 use character::Marks;
 use character::no_marks;
@@ -11,9 +14,6 @@ use queue::one_waits;
 use queue::put;
 use queue::remove_waiting;
 use sampler::Came;
-use sampler::Sampler;
-use sampler::Setting;
-use sampler::drop_assembly;
 use sampler::sample;
 ghost use mathlib.Core.Path.{_≡_};
 ghost use Rattle.arrivals.specs.Arrivals.{freshReceiver, oldestMarks, heardOf, startedOf, enteredOf, arrivedOf, pulsedOf};

@@ -13,9 +13,9 @@ use Rattle.format.specs.Pick.{pick}
 use Rattle.frame.specs.Levels.{beforeStop, spread, levels}
 use Rattle.character.specs.declared.character.Character.{Character}
 use Rattle.character.specs.Character.{noMarks}
-use Rattle.sampler.specs.Assembly.{dataWidthOf, samplesOf, withSample, characterOf, parityWrongOf}
+use Rattle.assembly.specs.Assembly.{dataWidthOf, samplesOf, withSample, characterOf, parityWrongOf}
+use Rattle.assembly.specs.State.{gapOf, afterStop}
 use Rattle.sampler.specs.Lines.{at16}
-use Rattle.sampler.specs.State.{gapOf, afterStop}
 use Rattle.sampler.specs.Sampler.{lowAt, hunted, lookedAgain, finished, sampled, assembled, sampleOf}
 use Rattle.queue.specs.Queue.{heldOf, waitsOf, putOf, withoutWaitingOf, tookOf}
 use Rattle.arrivals.specs.declared.arrivals.Receiver.{Receiver}

@@ -16,13 +16,13 @@ use Rattle.format.proofs.Laws.Stop.{stop-least}
 use Rattle.frame.specs.Levels.{beforeStop, spread, levels, frame}
 use Rattle.character.specs.declared.character.Character.{Character}
 use Rattle.character.specs.Character.{clean}
+use Rattle.assembly.specs.declared.state.Sampler.{Sampler}
+use Rattle.assembly.specs.declared.state.Setting.{Setting}
+use Rattle.assembly.specs.State.{hunting}
 use Rattle.sampler.specs.declared.sampler.Came.{Came}
 use Rattle.sampler.specs.declared.sampler.Came.the-variants.{NoCharacter, Arrival}
 use Rattle.sampler.specs.declared.sampler.Sampled.{Sampled}
-use Rattle.sampler.specs.declared.state.Sampler.{Sampler}
-use Rattle.sampler.specs.declared.state.Setting.{Setting}
 use Rattle.sampler.specs.Lines.{at16, Line, hears, listOf, afterLines, arrivals}
-use Rattle.sampler.specs.State.{hunting}
 use Rattle.sampler.specs.Sampler.{hunted, sampleOf}
 use Rattle.sampler.proofs.Laws.Heard.{Said, changing, begun, coming, heard, reached, Ran, hears-frame}
 use Rattle.sampler.proofs.Laws.Heard.Said.{changes, began, came}

@@ -15,9 +15,9 @@ use Rattle.frame.specs.Levels.{beforeStop, spread, levels}
 use Rattle.character.specs.declared.character.Character.{Character}
 use Rattle.character.specs.declared.character.Marks.{Marks}
 use Rattle.character.specs.Character.{noCharacter, noMarks}
-use Rattle.sampler.specs.Assembly.{dataWidthOf, samplesOf, withSample, characterOf}
+use Rattle.assembly.specs.Assembly.{dataWidthOf, samplesOf, withSample, characterOf}
+use Rattle.assembly.specs.State.{gapOf, afterStop, hunting, starting}
 use Rattle.sampler.specs.Lines.{at16, hears}
-use Rattle.sampler.specs.State.{gapOf, afterStop, hunting, starting}
 use Rattle.sampler.specs.Sampler.{waited, lowAt, hunted, lookedAgain, finished, sampled, assembled, sampleOf}
 use Rattle.queue.specs.declared.queue.Queue.{Queue}
 use Rattle.queue.specs.Queue.{heldOf, emptyQueue, waitsOf, putOf, withoutWaitingOf, tookOf}

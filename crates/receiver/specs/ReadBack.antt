@@ -9,8 +9,8 @@ use Rattle.format.specs.Digits.{cutOf}
 use Rattle.frame.specs.Levels.{beforeStop, levels}
 use Rattle.character.specs.declared.character.Character.{Character}
 use Rattle.character.specs.Character.{clean}
-use Rattle.sampler.specs.declared.state.Sampler.{Sampler}
-use Rattle.sampler.specs.declared.state.Setting.{Setting}
+use Rattle.assembly.specs.declared.state.Sampler.{Sampler}
+use Rattle.assembly.specs.declared.state.Setting.{Setting}
 use Rattle.sampler.specs.Lines.{at16, afterLines, arrivals}
 use Rattle.queue.specs.Queue.{heldOf}
 use Rattle.arrivals.specs.declared.arrivals.Receiver.{Receiver}

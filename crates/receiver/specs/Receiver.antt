@@ -2,7 +2,7 @@
 use mathlib.Core.Bool.{false}
 use Rattle.format.specs.Pick.{pick}
 use Rattle.character.specs.Character.{noMarks, orMarks, unmarkedOf}
-use Rattle.sampler.specs.State.{hunting}
+use Rattle.assembly.specs.State.{hunting}
 use Rattle.queue.specs.Queue.{emptyQueue, isEmptyOf, oldestOf, tookOf, replacedOf}
 use Rattle.arrivals.specs.declared.arrivals.Receiver.{Receiver}
 use Rattle.arrivals.specs.Arrivals.{freshReceiver, oldestMarks, withSampler, withQueue, withOverrun, withSums, withChange, withLast, pulsedOf}

@@ -3,6 +3,8 @@ use arrivals::Receiver;
 use arrivals::fresh_receiver;
 use arrivals::oldest_marks;
 use arrivals::pulse;
+use assembly::Setting;
+use assembly::drop_assembly;
 use character::no_marks;
 use character::or_marks;
 use character::unmarked;
@@ -11,8 +13,6 @@ use queue::is_empty;
 use queue::oldest;
 use queue::replace_oldest;
 use queue::take_oldest;
-use sampler::Setting;
-use sampler::drop_assembly;
 ghost use mathlib.Core.Path.{_≡_};
 ghost use Rattle.receiver.specs.Receiver.{assemblyDropped, resetOf, errorsCleared, breakChangeCleared, effectOf, enablingOf, oldestRead, readOf, unread, fedOf};
 

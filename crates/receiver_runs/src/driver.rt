@@ -1,10 +1,10 @@
 // The receiver that is driven, the numbers that choose, and the sums over what it shows.
 use arrivals::Receiver;
+use assembly::Setting;
 use draws::weighed;
 use receiver::Feed;
 use receiver::feed_receiver;
 use receiver::show_status;
-use sampler::Setting;
 
 // The receiver, what a chip would keep for it (its enable, MR1, 16X or 1X), and the sums.
 pub struct Driver {

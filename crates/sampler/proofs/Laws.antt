@@ -1,5 +1,4 @@
 -- The laws of the sampler, a file a topic. Assumes nothing.
-pub mod Assembly
 pub mod Heard
 pub mod Ranges
 pub mod Room

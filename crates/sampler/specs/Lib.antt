@@ -1,6 +1,4 @@
--- What a reader must believe of the sampler: a file a topic, under the names of src/, and what it sees and says, run alone.
-pub mod Assembly
-pub mod State
+-- What a reader must believe of the sampler: what a pulse does to it; what it sees and says, run alone; and the ranges of its fields.
 pub mod Sampler
 pub mod Lines
 pub mod Sound

@@ -4,12 +4,12 @@ use mathlib.Core.Bool.{Bool, true, false}
 use mathlib.Core.List.{List, [], _∷_, _++_}
 use Rattle.format.specs.declared.format.Format.{Format}
 use Rattle.character.specs.declared.character.Character.{Character}
+use Rattle.assembly.specs.declared.state.Sampler.{Sampler}
+use Rattle.assembly.specs.declared.state.Setting.{Setting}
+use Rattle.assembly.specs.State.{hunting}
 use Rattle.sampler.specs.declared.sampler.Came.{Came}
 use Rattle.sampler.specs.declared.sampler.Came.the-variants.{NoCharacter, Arrival}
 use Rattle.sampler.specs.declared.sampler.Sampled.{Sampled}
-use Rattle.sampler.specs.declared.state.Sampler.{Sampler}
-use Rattle.sampler.specs.declared.state.Setting.{Setting}
-use Rattle.sampler.specs.State.{hunting}
 use Rattle.sampler.specs.Sampler.{still, sampleOf}
 
 -- a format with 16X pulses

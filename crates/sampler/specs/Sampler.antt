@@ -5,12 +5,12 @@ use mathlib.Core.Bool.{Bool, true, false}
 use lib.Dec.{eqb, ltb}
 use Rattle.format.specs.Pick.{pick}
 use Rattle.character.specs.Character.{breakCharacter}
+use Rattle.assembly.specs.declared.state.Sampler.{Sampler}
+use Rattle.assembly.specs.declared.state.Setting.{Setting}
+use Rattle.assembly.specs.State.{hunting, starting, assembling, afterLowStop, inBreak, gapOf, afterStop}
+use Rattle.assembly.specs.Assembly.{samplesOf, withSample, characterOf}
 use Rattle.sampler.specs.declared.sampler.Came.the-variants.{NoCharacter, Arrival}
 use Rattle.sampler.specs.declared.sampler.Sampled.{Sampled}
-use Rattle.sampler.specs.declared.state.Sampler.{Sampler}
-use Rattle.sampler.specs.declared.state.Setting.{Setting}
-use Rattle.sampler.specs.State.{hunting, starting, assembling, afterLowStop, inBreak, gapOf, afterStop}
-use Rattle.sampler.specs.Assembly.{samplesOf, withSample, characterOf}
 
 -- no start, no character, no break change
 abbrev pub still : Sampler → Sampled

@@ -1,8 +1,8 @@
 -- The ranges of the sampler's fields, which "hold every value a rule here can put there". docs/SOUND.md lists the same. Assumes nothing.
 use mathlib.Core.Bool.{Bool, _&&_}
 use lib.Dec.{leb}
-use Rattle.sampler.specs.declared.state.Sampler.{Sampler}
-use Rattle.sampler.specs.declared.state.Setting.{Setting}
+use Rattle.assembly.specs.declared.state.Sampler.{Sampler}
+use Rattle.assembly.specs.declared.state.Setting.{Setting}
 
 -- 5 to 8 data bits, parity 0 with, 1 forced, 2 none
 abbrev pub settingInRange : Setting → Bool

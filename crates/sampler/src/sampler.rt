@@ -1,19 +1,19 @@
 // The sampler: characters put together from the levels of a line, pulse by pulse. It never looks at
 // the queue. A disabled receiver is given no pulses, so there is no state for it here.
-use crate::assembly::character_of;
-use crate::assembly::samples_before_stop;
-use crate::state::AFTER_LOW_STOP;
-use crate::state::ASSEMBLING;
-use crate::state::IN_BREAK;
-use crate::state::STARTING;
-use crate::state::Sampler;
-use crate::state::Setting;
-use crate::state::after_stop;
-use crate::state::assembling_at;
-use crate::state::empty_at;
-use crate::state::gap;
-use crate::state::hunting_after;
-use crate::state::starting_at;
+use assembly::AFTER_LOW_STOP;
+use assembly::ASSEMBLING;
+use assembly::IN_BREAK;
+use assembly::STARTING;
+use assembly::Sampler;
+use assembly::Setting;
+use assembly::after_stop;
+use assembly::assembling_at;
+use assembly::character_of;
+use assembly::empty_at;
+use assembly::gap;
+use assembly::hunting_after;
+use assembly::samples_before_stop;
+use assembly::starting_at;
 use character::Character;
 use character::break_character;
 use format::Bits;

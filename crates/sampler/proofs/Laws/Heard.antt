@@ -17,15 +17,15 @@ use Rattle.format.specs.Parity.{dataBits, parityBits}
 use Rattle.frame.specs.Levels.{beforeStop, spread, levels}
 use Rattle.character.specs.declared.character.Character.{Character}
 use Rattle.character.specs.Character.{clean}
+use Rattle.assembly.specs.declared.state.Sampler.{Sampler}
+use Rattle.assembly.specs.declared.state.Setting.{Setting}
+use Rattle.assembly.specs.Assembly.{samplesOf, withSample, characterOf}
+use Rattle.assembly.specs.State.{hunting, assembling, gapOf, afterStop}
+use Rattle.assembly.proofs.Laws.Assembly.{samples-are, with-sample-small, with-sample-adds, sampled-clean}
 use Rattle.sampler.specs.declared.sampler.Came.{Came}
 use Rattle.sampler.specs.declared.sampler.Came.the-variants.{NoCharacter, Arrival}
-use Rattle.sampler.specs.declared.state.Sampler.{Sampler}
-use Rattle.sampler.specs.declared.state.Setting.{Setting}
-use Rattle.sampler.specs.Assembly.{samplesOf, withSample, characterOf}
-use Rattle.sampler.specs.State.{hunting, assembling, gapOf, afterStop}
 use Rattle.sampler.specs.Sampler.{lowAt, hunted, lookedAgain, finished, sampled, assembled, sampleOf}
 use Rattle.sampler.specs.Lines.{at16}
-use Rattle.sampler.proofs.Laws.Assembly.{samples-are, with-sample-small, with-sample-adds, sampled-clean}
 
 -- what a sampler says, in order: break change, a confirmed start, or an arrival
 pub data Said : Type 0 where

@@ -13,14 +13,14 @@ use Rattle.format.specs.declared.counts.Pulses.{Pulses}
 use Rattle.format.specs.Pick.{pick}
 use Rattle.format.specs.Format.{formatOf}
 use Rattle.format.proofs.Laws.Pick.{pick-all}
+use Rattle.assembly.specs.declared.state.Sampler.{Sampler}
+use Rattle.assembly.specs.declared.state.Setting.{Setting}
+use Rattle.assembly.specs.Assembly.{samplesOf, withSample}
+use Rattle.assembly.specs.State.{emptyAt, hunting, starting, assembling, gapOf, afterStop}
+use Rattle.assembly.proofs.Laws.Assembly.{samples-most, with-sample-small}
 use Rattle.sampler.specs.declared.sampler.Sampled.{Sampled}
-use Rattle.sampler.specs.declared.state.Sampler.{Sampler}
-use Rattle.sampler.specs.declared.state.Setting.{Setting}
-use Rattle.sampler.specs.Assembly.{samplesOf, withSample}
-use Rattle.sampler.specs.State.{emptyAt, hunting, starting, assembling, gapOf, afterStop}
 use Rattle.sampler.specs.Sampler.{confirmed, lowAt, hunted, lookedAgain, finished, sampled, assembled, followed, waited, sampleOf}
 use Rattle.sampler.specs.Sound.{settingInRange, samplerInRange}
-use Rattle.sampler.proofs.Laws.Assembly.{samples-most, with-sample-small}
 
 -- the ranges as inequalities
 record Within (s : Sampler) : Type 0 where

@@ -6,13 +6,13 @@ use native.Mathlib.Omega.{arith}
 use lib.Dec.{eqb, ltb}
 use Rattle.format.specs.Pick.{pick}
 use Rattle.format.proofs.Laws.Pick.{pick-all}
+use Rattle.assembly.specs.declared.state.Sampler.{Sampler}
+use Rattle.assembly.specs.declared.state.Setting.{Setting}
+use Rattle.assembly.specs.Assembly.{samplesOf}
+use Rattle.assembly.specs.State.{afterStop}
 use Rattle.sampler.specs.declared.sampler.Came.{Came}
 use Rattle.sampler.specs.declared.sampler.Came.the-variants.{NoCharacter, Arrival}
 use Rattle.sampler.specs.declared.sampler.Sampled.{Sampled}
-use Rattle.sampler.specs.declared.state.Sampler.{Sampler}
-use Rattle.sampler.specs.declared.state.Setting.{Setting}
-use Rattle.sampler.specs.Assembly.{samplesOf}
-use Rattle.sampler.specs.State.{afterStop}
 use Rattle.sampler.specs.Sampler.{confirmed, lowAt, hunted, lookedAgain, arrived, finished, sampled, assembled, followed, waited, sampleOf}
 
 -- three while a confirmed start is under way, else four

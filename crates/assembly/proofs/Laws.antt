@@ -1,0 +1,2 @@
+-- The laws of a character put together. Assumes nothing.
+pub mod Assembly
