@@ -2,9 +2,9 @@
 // they show.
 use clocks::Phases;
 use draws::weighed;
+use sending::Transmitter;
 use timer::Timer;
 use timer::mode_of;
-use transmitter::Transmitter;
 use transmitter::transmitter_status;
 
 // Channel A's transmitter and clocks and the counter/timer, what a chip would keep for them (the

@@ -6,6 +6,8 @@ use clocks::ClockEvent;
 use clocks::Clocked;
 use clocks::clock_channel;
 use clocks::is_sixteen;
+use sending::Standing;
+use sending::Transmitter;
 use timer::Counted;
 use timer::Timer;
 use timer::mode_of;
@@ -13,8 +15,6 @@ use timer::step_by_edge;
 use timer::step_by_tick;
 use timer::step_by_transmitter;
 use transmitter::Input;
-use transmitter::Standing;
-use transmitter::Transmitter;
 use transmitter::step_transmitter;
 
 fn level(pins: u8, weight: u8) -> bool {

@@ -56,7 +56,7 @@ fn step(driver: Driver) -> Driver {
 
 fn run(seed: u64) -> Driver {
     let mut d = Driver {
-        transmitter: transmitter::fresh_transmitter(),
+        transmitter: sending::fresh_transmitter(),
         phases: clocks::restart(),
         timer: timer::fresh_timer(),
         mr1: 0,

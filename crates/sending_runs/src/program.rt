@@ -5,13 +5,13 @@ use crate::driver::next;
 use crate::driver::observe;
 use clocks::restart;
 use clocks::restart_on_change;
+use sending::fresh_transmitter;
 use timer::change_mode;
 use timer::fresh_timer;
 use timer::mode_of;
 use timer::start_counter;
 use timer::stop_counter;
 use transmitter::Input;
-use transmitter::fresh_transmitter;
 use transmitter::step_transmitter;
 
 fn quiet(driver: Driver) -> Driver {

@@ -7,16 +7,16 @@ use mathlib.Core.List.{List, [], _∷_, _++_}
 use lib.ListN.{length, replicate}
 use Rattle.format.specs.Digits.{bitsOf, valueOf}
 use Rattle.format.specs.Format.{formatOf}
-use Rattle.frame.specs.Levels.{beforeStop, bitsBeforeStopOf, spread, levels, frame, frameLengthOf, frameBitsOf, levelOf}
 use Rattle.format.specs.Parity.{parityBits}
 use Rattle.format.specs.Pick.{pick}
 use Rattle.format.specs.Stop.{stopLengthOf, stopBitsOf}
-use Rattle.transmitter.specs.declared.sending.Standing.{Standing}
-use Rattle.transmitter.specs.declared.state.Transmitter.{Transmitter}
+use Rattle.frame.specs.Levels.{beforeStop, bitsBeforeStopOf, spread, levels, frame, frameLengthOf, frameBitsOf, levelOf}
+use Rattle.sending.specs.declared.sending.Standing.{Standing}
+use Rattle.sending.specs.declared.state.Transmitter.{Transmitter}
+use Rattle.sending.specs.State.{freshTransmitter}
+use Rattle.sending.specs.Sending.{clearToSend, canStart, takenOf, begunOf, bitOfPulse, sentOnOf, heldHigh, pulsedOf}
 use Rattle.transmitter.specs.declared.transmitter.Input.{Input}
 use Rattle.transmitter.specs.declared.transmitter.Input.the-variants.{Pulse, Write, Enable, Disable, StartBreak, StopBreak, Reset}
-use Rattle.transmitter.specs.State.{freshTransmitter}
-use Rattle.transmitter.specs.Sending.{clearToSend, canStart, takenOf, begunOf, bitOfPulse, sentOnOf, heldHigh, pulsedOf}
 use Rattle.transmitter.specs.Commands.{writtenOf, breakEnded, droppedOf, breakAsked}
 use Rattle.transmitter.specs.Transmitter.{afterInput}
 use Rattle.transmitter.specs.Status.{statusOf}

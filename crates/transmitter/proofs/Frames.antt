@@ -15,17 +15,17 @@ use borrow.Author.Tests.{ltb-true, lt-ltb, le-leb}
 use Rattle.format.specs.declared.counts.Pulses.{Pulses}
 use Rattle.format.specs.Pick.{pick}
 use Rattle.format.specs.Format.{formatOf, stopCodeOf}
-use Rattle.frame.specs.Levels.{beforeStop, frame, frameBitsOf, frameLengthOf, levelOf}
 use Rattle.format.proofs.Laws.Pick.{pick-yes, pick-no, pick-all}
+use Rattle.frame.specs.Levels.{beforeStop, frame, frameBitsOf, frameLengthOf, levelOf}
 use Rattle.frame.proofs.Laws.Levels.{before-stop-most, length-before-stop, frame-length, frame-at}
 use Rattle.frame.proofs.Laws.Register.{register-at}
-use Rattle.transmitter.specs.declared.sending.Standing.{Standing}
-use Rattle.transmitter.specs.declared.state.Shifter.{Shifter}
-use Rattle.transmitter.specs.declared.state.Transmitter.{Transmitter}
+use Rattle.sending.specs.declared.sending.Standing.{Standing}
+use Rattle.sending.specs.declared.state.Shifter.{Shifter}
+use Rattle.sending.specs.declared.state.Transmitter.{Transmitter}
+use Rattle.sending.specs.State.{withHolding, withPhase, withShifter}
+use Rattle.sending.specs.Sending.{canStart, takenOf, startedOf, breakBegun, idleOf, begunOf, bitOfPulse, sentOnOf, pulsedOf}
 use Rattle.transmitter.specs.declared.transmitter.Input.{Input}
 use Rattle.transmitter.specs.declared.transmitter.Input.the-variants.{Nothing, Pulse, Write, Enable, Disable, StartBreak, StopBreak, Reset, ChipReset}
-use Rattle.transmitter.specs.State.{withHolding, withPhase, withShifter}
-use Rattle.transmitter.specs.Sending.{canStart, takenOf, startedOf, breakBegun, idleOf, begunOf, bitOfPulse, sentOnOf, pulsedOf}
 use Rattle.transmitter.specs.Commands.{writtenOf, breakEnded, breakAsked}
 use Rattle.transmitter.specs.Status.{shifterEmpty}
 use Rattle.transmitter.specs.Transmitter.{afterInput}

@@ -10,17 +10,17 @@ use lib.Dec.{eqb, leb}
 use lib.ListN.{getD, replicate}
 use Rattle.format.specs.Digits.{bitsOf, valueOf}
 use Rattle.format.specs.Format.{formatOf, stopCodeOf}
-use Rattle.frame.specs.Levels.{beforeStop, bitsBeforeStopOf, spread, levels, frame, frameLengthOf, frameBitsOf, levelOf}
 use Rattle.format.specs.Parity.{parityBits}
 use Rattle.format.specs.Pick.{pick}
 use Rattle.format.specs.Stop.{stopLengthOf, stopBitsOf}
-use Rattle.transmitter.specs.declared.sending.Standing.{Standing}
-use Rattle.transmitter.specs.declared.state.Shifter.{Shifter}
-use Rattle.transmitter.specs.declared.state.Transmitter.{Transmitter}
+use Rattle.frame.specs.Levels.{beforeStop, bitsBeforeStopOf, spread, levels, frame, frameLengthOf, frameBitsOf, levelOf}
+use Rattle.sending.specs.declared.sending.Standing.{Standing}
+use Rattle.sending.specs.declared.state.Shifter.{Shifter}
+use Rattle.sending.specs.declared.state.Transmitter.{Transmitter}
+use Rattle.sending.specs.State.{emptyShifter, freshTransmitter, withEnabled, withHolding, withPhase, withShifter, withAsked}
+use Rattle.sending.specs.Sending.{canStart, takenOf, startedOf, breakBegun, idleOf, begunOf, bitOfPulse, oneMore, sentOnOf, pulsedOf}
 use Rattle.transmitter.specs.declared.transmitter.Input.{Input}
 use Rattle.transmitter.specs.declared.transmitter.Input.the-variants.{Nothing, Pulse, Write, Enable, Disable, StartBreak, StopBreak, Reset, ChipReset}
-use Rattle.transmitter.specs.State.{emptyShifter, freshTransmitter, withEnabled, withHolding, withPhase, withShifter, withAsked}
-use Rattle.transmitter.specs.Sending.{canStart, takenOf, startedOf, breakBegun, idleOf, begunOf, bitOfPulse, oneMore, sentOnOf, pulsedOf}
 use Rattle.transmitter.specs.Commands.{writtenOf, enabledOf, breakEnded, disabledOf, resetOf, breakAsked}
 use Rattle.transmitter.specs.Transmitter.{afterInput}
 use Rattle.transmitter.specs.Frames.{Step, after, pulsesIn, line, free, Startable, Sends, GoesBackToBack}

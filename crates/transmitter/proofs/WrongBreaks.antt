@@ -7,11 +7,11 @@ use native.Mathlib.Omega.{arith}
 use lib.Dec.{eqb, ltb}
 use lib.ListN.{replicate}
 use Rattle.format.specs.Pick.{pick}
-use Rattle.transmitter.specs.declared.sending.Standing.{Standing}
-use Rattle.transmitter.specs.declared.state.Transmitter.{Transmitter}
+use Rattle.sending.specs.declared.sending.Standing.{Standing}
+use Rattle.sending.specs.declared.state.Transmitter.{Transmitter}
+use Rattle.sending.specs.State.{freshTransmitter, withHolding, withPhase, withLeft, withAsked}
+use Rattle.sending.specs.Sending.{canStart, idleOf, begunOf, heldHigh, pulsedOf}
 use Rattle.transmitter.specs.declared.transmitter.Input.the-variants.{Pulse, Write, StopBreak}
-use Rattle.transmitter.specs.State.{freshTransmitter, withHolding, withPhase, withLeft, withAsked}
-use Rattle.transmitter.specs.Sending.{canStart, idleOf, begunOf, heldHigh, pulsedOf}
 use Rattle.transmitter.specs.Commands.{writtenOf, highAfter, breakEnded, disabledOf, resetOf}
 use Rattle.transmitter.specs.Transmitter.{afterInput}
 use Rattle.transmitter.specs.Frames.{Step, after, pulsesIn}

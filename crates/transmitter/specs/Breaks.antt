@@ -7,12 +7,12 @@ use mathlib.Core.Bool.{Bool, true, false, not}
 use mathlib.Core.List.{List, _∷_, _++_}
 use lib.Dec.{eqb}
 use Rattle.format.specs.Pick.{pick}
-use Rattle.transmitter.specs.declared.sending.Standing.{Standing}
-use Rattle.transmitter.specs.declared.state.Transmitter.{Transmitter}
+use Rattle.sending.specs.declared.sending.Standing.{Standing}
+use Rattle.sending.specs.declared.state.Transmitter.{Transmitter}
+use Rattle.sending.specs.State.{inBreak, afterBreak, withLeft, withAsked}
+use Rattle.sending.specs.Sending.{canStart, breakBegun, idleOf}
 use Rattle.transmitter.specs.declared.transmitter.Input.{Input}
 use Rattle.transmitter.specs.declared.transmitter.Input.the-variants.{Nothing, Pulse, Write, Enable, Disable, StartBreak, StopBreak, Reset, ChipReset}
-use Rattle.transmitter.specs.State.{inBreak, afterBreak, withLeft, withAsked}
-use Rattle.transmitter.specs.Sending.{canStart, breakBegun, idleOf}
 use Rattle.transmitter.specs.Commands.{highAfter}
 use Rattle.transmitter.specs.Frames.{Step, after, pulsesIn, allOf, free}
 

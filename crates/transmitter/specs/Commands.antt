@@ -3,8 +3,8 @@ use Prim.Native.Nat.{ℕ}
 use mathlib.Core.Bool.{true, false, _||_}
 use lib.Dec.{eqb}
 use Rattle.format.specs.Pick.{pick}
-use Rattle.transmitter.specs.declared.state.Transmitter.{Transmitter}
-use Rattle.transmitter.specs.State.{idlePhase, inBreak, afterBreak, emptyShifter, withEnabled, withHolding, withPhase, withShifter, withLeft, withAsked}
+use Rattle.sending.specs.declared.state.Transmitter.{Transmitter}
+use Rattle.sending.specs.State.{idlePhase, inBreak, afterBreak, emptyShifter, withEnabled, withHolding, withPhase, withShifter, withLeft, withAsked}
 
 -- "A write while disabled is ignored; a second write replaces the first."
 unfoldable pub writtenOf : Transmitter → ℕ → Transmitter

@@ -9,12 +9,12 @@ use lib.ListN.{length, getD, replicate}
 use Rattle.format.specs.Pick.{pick}
 use Rattle.format.specs.Format.{formatOf, stopCodeOf}
 use Rattle.frame.specs.Levels.{frame}
-use Rattle.transmitter.specs.declared.sending.Standing.{Standing}
-use Rattle.transmitter.specs.declared.state.Transmitter.{Transmitter}
+use Rattle.sending.specs.declared.sending.Standing.{Standing}
+use Rattle.sending.specs.declared.state.Transmitter.{Transmitter}
+use Rattle.sending.specs.State.{sending, inBreak, afterBreak, withHolding}
+use Rattle.sending.specs.Sending.{clearToSend, canStart, idleOf}
 use Rattle.transmitter.specs.declared.transmitter.Input.{Input}
 use Rattle.transmitter.specs.declared.transmitter.Input.the-variants.{Nothing, Pulse, Write, Enable, Disable, StartBreak, StopBreak, Reset, ChipReset}
-use Rattle.transmitter.specs.State.{sending, inBreak, afterBreak, withHolding}
-use Rattle.transmitter.specs.Sending.{clearToSend, canStart, idleOf}
 use Rattle.transmitter.specs.Status.{shifterEmpty}
 
 -- ---- lists of inputs ----

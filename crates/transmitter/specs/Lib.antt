@@ -1,7 +1,5 @@
 -- What a reader must believe of one transmitter: a file a topic, under the names of src/; what is owed of it (Frames, Breaks, Obeys); and its
 -- ranges.
-pub mod State
-pub mod Sending
 pub mod Commands
 pub mod Transmitter
 pub mod Status

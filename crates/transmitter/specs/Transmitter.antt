@@ -1,9 +1,9 @@
 -- One transmitter, and what an input does to it. Assumes nothing.
-use Rattle.transmitter.specs.declared.state.Transmitter.{Transmitter}
+use Rattle.sending.specs.declared.state.Transmitter.{Transmitter}
+use Rattle.sending.specs.State.{freshTransmitter}
+use Rattle.sending.specs.Sending.{pulsedOf}
 use Rattle.transmitter.specs.declared.transmitter.Input.{Input}
 use Rattle.transmitter.specs.declared.transmitter.Input.the-variants.{Nothing, Pulse, Write, Enable, Disable, StartBreak, StopBreak, Reset, ChipReset}
-use Rattle.transmitter.specs.State.{freshTransmitter}
-use Rattle.transmitter.specs.Sending.{pulsedOf}
 use Rattle.transmitter.specs.Commands.{writtenOf, enabledOf, breakEnded, disabledOf, resetOf, breakAsked}
 
 unfoldable pub afterInput : Transmitter → Input → Transmitter

@@ -1,10 +1,10 @@
 // What the program does to a transmitter: a write, and the commands.
-use crate::state::AFTER_BREAK;
-use crate::state::IDLE;
-use crate::state::IN_BREAK;
-use crate::state::Transmitter;
-use crate::state::empty_shifter;
 use format::Pulses;
+use sending::AFTER_BREAK;
+use sending::IDLE;
+use sending::IN_BREAK;
+use sending::Transmitter;
+use sending::empty_shifter;
 ghost use mathlib.Core.Path.{_≡_};
 ghost use Rattle.transmitter.specs.Commands.{writtenOf, enabledOf, highAfter, breakEnded, disabledOf, droppedOf, resetOf, breakAsked};
 

@@ -1,6 +1,6 @@
 // TxRDY and TxEMT.
-use crate::state::SENDING;
-use crate::state::Transmitter;
+use sending::SENDING;
+use sending::Transmitter;
 ghost use mathlib.Core.Path.{_≡_};
 ghost use Rattle.transmitter.specs.Status.{shifterEmpty, statusOf};
 

@@ -5,10 +5,10 @@ use crate::commands::enable;
 use crate::commands::end_break;
 use crate::commands::reset;
 use crate::commands::write;
-use crate::sending::Standing;
-use crate::sending::pulse;
-use crate::state::Transmitter;
-use crate::state::fresh_transmitter;
+use sending::Standing;
+use sending::Transmitter;
+use sending::fresh_transmitter;
+use sending::pulse;
 ghost use mathlib.Core.Path.{_≡_};
 ghost use Rattle.transmitter.specs.Transmitter.{afterInput};
 

@@ -7,11 +7,11 @@ use lib.Dec.{eqb, leb}
 use borrow.Author.Tests.{leb-true, le-ltb}
 use Rattle.format.specs.Pick.{pick}
 use Rattle.format.proofs.Laws.Pick.{pick-no}
-use Rattle.transmitter.specs.declared.sending.Standing.{Standing}
-use Rattle.transmitter.specs.declared.state.Transmitter.{Transmitter}
+use Rattle.sending.specs.declared.sending.Standing.{Standing}
+use Rattle.sending.specs.declared.state.Transmitter.{Transmitter}
+use Rattle.sending.specs.Sending.{canStart, startedOf, breakBegun, idleOf, begunOf, sentOnOf, pulsedOf}
 use Rattle.transmitter.specs.declared.transmitter.Input.{Input}
 use Rattle.transmitter.specs.declared.transmitter.Input.the-variants.{Pulse}
-use Rattle.transmitter.specs.Sending.{canStart, startedOf, breakBegun, idleOf, begunOf, sentOnOf, pulsedOf}
 use Rattle.transmitter.specs.Transmitter.{afterInput}
 use Rattle.transmitter.specs.Frames.{Step, after, free}
 

@@ -9,15 +9,15 @@ use lib.Dec.{eqb, ltb, leb}
 use borrow.Author.Tests.{ltb-true, leb-true, le-leb}
 use Rattle.format.specs.Pick.{pick}
 use Rattle.format.specs.Format.{formatOf, stopCodeOf}
-use Rattle.frame.specs.Levels.{frameLengthOf}
 use Rattle.format.proofs.Laws.Pick.{pick-all}
+use Rattle.frame.specs.Levels.{frameLengthOf}
 use Rattle.frame.proofs.Laws.Levels.{length-most}
-use Rattle.transmitter.specs.declared.sending.Standing.{Standing}
-use Rattle.transmitter.specs.declared.state.Transmitter.{Transmitter}
+use Rattle.sending.specs.declared.sending.Standing.{Standing}
+use Rattle.sending.specs.declared.state.Transmitter.{Transmitter}
+use Rattle.sending.specs.State.{freshTransmitter}
+use Rattle.sending.specs.Sending.{canStart, takenOf, idleOf, begunOf, sentOnOf, heldHigh, pulsedOf}
 use Rattle.transmitter.specs.declared.transmitter.Input.{Input}
 use Rattle.transmitter.specs.declared.transmitter.Input.the-variants.{Nothing, Pulse, Write, Enable, Disable, StartBreak, StopBreak, Reset, ChipReset}
-use Rattle.transmitter.specs.State.{freshTransmitter}
-use Rattle.transmitter.specs.Sending.{canStart, takenOf, idleOf, begunOf, sentOnOf, heldHigh, pulsedOf}
 use Rattle.transmitter.specs.Commands.{writtenOf, breakEnded, droppedOf, breakAsked}
 use Rattle.transmitter.specs.Transmitter.{afterInput}
 use Rattle.transmitter.specs.Frames.{after}

@@ -1,8 +1,8 @@
 -- `take_frame` meets its contract: it is what its callees answer. Assumes nothing.
 use borrow.Author.Needs.{needs}
-use Rattle.transmitter.specs.Sending.{takenOf}
-use Rattle.transmitter.proofs.sending.take_frame.Statement.{statement}
-use Rattle.transmitter.proofs.sending.take_frame.Tie as tie
+use Rattle.sending.specs.Sending.{takenOf}
+use Rattle.sending.proofs.sending.take_frame.Statement.{statement}
+use Rattle.sending.proofs.sending.take_frame.Tie as tie
 
 frame-bits-requires : tie.Need-frame-bits-requires
 frame-bits-requires c κs = search needs

@@ -1,8 +1,8 @@
 -- `bit_of_pulse` meets its contract: each way through the tests is the definition's. Assumes nothing.
 use Rattle.format.proofs.Laws.{steps}
-use Rattle.transmitter.specs.Sending.{bitOfPulse}
-use Rattle.transmitter.proofs.sending.bit_of_pulse.Statement.{statement}
-use Rattle.transmitter.proofs.sending.bit_of_pulse.Tie as tie
+use Rattle.sending.specs.Sending.{bitOfPulse}
+use Rattle.sending.proofs.sending.bit_of_pulse.Statement.{statement}
+use Rattle.sending.proofs.sending.bit_of_pulse.Tie as tie
 
 returns : tie.Need-returns
 unfolding bitOfPulse

@@ -8,7 +8,7 @@ use crate::state::Transmitter;
 use format::Bits;
 use format::Pulses;
 ghost use mathlib.Core.Path.{_≡_};
-ghost use Rattle.transmitter.specs.Sending.{clearToSend, canStart, takenOf, startedOf, breakBegun, idleOf, begunOf, bitOfPulse, sentOnOf, heldHigh, pulsedOf};
+ghost use Rattle.sending.specs.Sending.{clearToSend, canStart, takenOf, startedOf, breakBegun, idleOf, begunOf, bitOfPulse, sentOnOf, heldHigh, pulsedOf};
 
 // What a pulse finds: the mode registers, 16X or 1X, and the level of CTS, as they stand.
 pub struct Standing {

@@ -2,8 +2,8 @@
 use Prim.Native.Nat.{ℕ}
 use mathlib.Core.Bool.{Bool, true, false}
 use Rattle.format.specs.declared.counts.Pulses.{Pulses}
-use Rattle.transmitter.specs.declared.state.Shifter.{Shifter}
-use Rattle.transmitter.specs.declared.state.Transmitter.{Transmitter}
+use Rattle.sending.specs.declared.state.Shifter.{Shifter}
+use Rattle.sending.specs.declared.state.Transmitter.{Transmitter}
 
 -- What the transmitter is doing, its phase: nothing; the shifter holds a character; a break is being sent; the one bit of high after it. Any
 -- other number is idle.

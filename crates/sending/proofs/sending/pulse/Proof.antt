@@ -1,9 +1,9 @@
 -- `pulse` meets its contract: each way through the tests is the definition's, with the callee's answer. Assumes nothing.
 use borrow.Author.Needs.{needs}
 use Rattle.format.proofs.Laws.{steps}
-use Rattle.transmitter.specs.Sending.{pulsedOf}
-use Rattle.transmitter.proofs.sending.pulse.Statement.{statement}
-use Rattle.transmitter.proofs.sending.pulse.Tie as tie
+use Rattle.sending.specs.Sending.{pulsedOf}
+use Rattle.sending.proofs.sending.pulse.Statement.{statement}
+use Rattle.sending.proofs.sending.pulse.Tie as tie
 
 send-on-requires : tie.Need-send-on-requires
 send-on-requires c κs = search needs

@@ -1,7 +1,7 @@
 -- `clear_to_send` meets its contract: its tests are the definition's. Assumes nothing.
 use borrow.Author.Needs.{needs}
-use Rattle.transmitter.proofs.sending.clear_to_send.Statement.{statement}
-use Rattle.transmitter.proofs.sending.clear_to_send.Tie as tie
+use Rattle.sending.proofs.sending.clear_to_send.Statement.{statement}
+use Rattle.sending.proofs.sending.clear_to_send.Tie as tie
 
 returns : tie.Need-returns
 returns c = search needs

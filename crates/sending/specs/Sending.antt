@@ -7,10 +7,10 @@ use Rattle.format.specs.declared.counts.Pulses.{Pulses}
 use Rattle.format.specs.Pick.{pick}
 use Rattle.format.specs.Format.{formatOf, stopCodeOf}
 use Rattle.frame.specs.Levels.{frameBitsOf, frameLengthOf, levelOf}
-use Rattle.transmitter.specs.declared.sending.Standing.{Standing}
-use Rattle.transmitter.specs.declared.state.Shifter.{Shifter}
-use Rattle.transmitter.specs.declared.state.Transmitter.{Transmitter}
-use Rattle.transmitter.specs.State.{idlePhase, sending, inBreak, afterBreak, withHolding, withPhase, withShifter, withLeft, withAsked}
+use Rattle.sending.specs.declared.sending.Standing.{Standing}
+use Rattle.sending.specs.declared.state.Shifter.{Shifter}
+use Rattle.sending.specs.declared.state.Transmitter.{Transmitter}
+use Rattle.sending.specs.State.{idlePhase, sending, inBreak, afterBreak, withHolding, withPhase, withShifter, withLeft, withAsked}
 
 -- "CTS (if chosen; IP0 for A, IP1 for B) is low": MR2 bit 4 chooses it
 abbrev pub clearToSend : Standing → Bool

@@ -1,7 +1,7 @@
 -- `start` meets its contract: it is what its callees answer. Assumes nothing.
 use borrow.Author.Needs.{needs}
-use Rattle.transmitter.proofs.sending.start.Statement.{statement}
-use Rattle.transmitter.proofs.sending.start.Tie as tie
+use Rattle.sending.proofs.sending.start.Statement.{statement}
+use Rattle.sending.proofs.sending.start.Tie as tie
 
 take-frame-requires : tie.Need-take-frame-requires
 take-frame-requires c κs = search needs

@@ -1,9 +1,9 @@
 -- `hold_high` meets its contract: each way through the tests is the definition's, with the callee's answer. Assumes nothing.
 use borrow.Author.Needs.{needs}
 use Rattle.format.proofs.Laws.{steps}
-use Rattle.transmitter.specs.Sending.{heldHigh}
-use Rattle.transmitter.proofs.sending.hold_high.Statement.{statement}
-use Rattle.transmitter.proofs.sending.hold_high.Tie as tie
+use Rattle.sending.specs.Sending.{heldHigh}
+use Rattle.sending.proofs.sending.hold_high.Statement.{statement}
+use Rattle.sending.proofs.sending.hold_high.Tie as tie
 
 go-idle-requires : tie.Need-go-idle-requires
 go-idle-requires c κs = search needs

@@ -1,7 +1,7 @@
 -- `fresh_transmitter` meets its contract: it is what its callees answer. Assumes nothing.
 use borrow.Author.Needs.{needs}
-use Rattle.transmitter.proofs.state.fresh_transmitter.Statement.{statement}
-use Rattle.transmitter.proofs.state.fresh_transmitter.Tie as tie
+use Rattle.sending.proofs.state.fresh_transmitter.Statement.{statement}
+use Rattle.sending.proofs.state.fresh_transmitter.Tie as tie
 
 empty-shifter-requires : tie.Need-empty-shifter-requires
 empty-shifter-requires c κs = search needs

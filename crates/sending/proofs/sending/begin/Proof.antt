@@ -1,9 +1,9 @@
 -- `begin` meets its contract: each way through the tests is the definition's, with the callee's answer. Assumes nothing.
 use borrow.Author.Needs.{needs}
 use Rattle.format.proofs.Laws.{steps}
-use Rattle.transmitter.specs.Sending.{begunOf}
-use Rattle.transmitter.proofs.sending.begin.Statement.{statement}
-use Rattle.transmitter.proofs.sending.begin.Tie as tie
+use Rattle.sending.specs.Sending.{begunOf}
+use Rattle.sending.proofs.sending.begin.Statement.{statement}
+use Rattle.sending.proofs.sending.begin.Tie as tie
 
 can-start-requires : tie.Need-can-start-requires
 can-start-requires c κs = search needs

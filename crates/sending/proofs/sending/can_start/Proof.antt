@@ -1,7 +1,7 @@
 -- `can_start` meets its contract: it is what its callees answer. Assumes nothing.
 use borrow.Author.Needs.{needs}
-use Rattle.transmitter.proofs.sending.can_start.Statement.{statement}
-use Rattle.transmitter.proofs.sending.can_start.Tie as tie
+use Rattle.sending.proofs.sending.can_start.Statement.{statement}
+use Rattle.sending.proofs.sending.can_start.Tie as tie
 
 clear-to-send-requires : tie.Need-clear-to-send-requires
 clear-to-send-requires c κs = search needs

@@ -1,9 +1,9 @@
 -- `send_on` meets its contract: each way through the tests is the definition's, with the callee's answer. Assumes nothing.
 use borrow.Author.Needs.{needs}
 use Rattle.format.proofs.Laws.{steps}
-use Rattle.transmitter.specs.Sending.{sentOnOf}
-use Rattle.transmitter.proofs.sending.send_on.Statement.{statement}
-use Rattle.transmitter.proofs.sending.send_on.Tie as tie
+use Rattle.sending.specs.Sending.{sentOnOf}
+use Rattle.sending.proofs.sending.send_on.Statement.{statement}
+use Rattle.sending.proofs.sending.send_on.Tie as tie
 
 bit-of-pulse-requires : tie.Need-bit-of-pulse-requires
 bit-of-pulse-requires c κs = search needs
