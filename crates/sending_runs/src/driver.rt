@@ -1,10 +1,10 @@
 // The transmitter and the clocks that are driven, the numbers that choose, and the sums over what
 // they show.
 use clocks::Phases;
+use counting::Timer;
+use counting::mode_of;
 use draws::weighed;
 use sending::Transmitter;
-use timer::Timer;
-use timer::mode_of;
 use transmitter::transmitter_status;
 
 // Channel A's transmitter and clocks and the counter/timer, what a chip would keep for them (the

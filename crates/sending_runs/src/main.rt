@@ -58,7 +58,7 @@ fn run(seed: u64) -> Driver {
     let mut d = Driver {
         transmitter: sending::fresh_transmitter(),
         phases: clocks::restart(),
-        timer: timer::fresh_timer(),
+        timer: counting::fresh_timer(),
         mr1: 0,
         mr2: 0,
         csr: 0,

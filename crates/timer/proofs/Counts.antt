@@ -10,12 +10,13 @@ use lib.Dec.{eqb, leb, eqb·suc-zero}
 use borrow.Author.Tests.{eq-eqb, ne-eqb, le-leb, lt-leb}
 use Rattle.format.specs.Pick.{pick}
 use Rattle.format.proofs.Laws.Pick.{pick-all, pick-yes, pick-no}
-use Rattle.timer.specs.declared.timer.Counted.{Counted}
-use Rattle.timer.specs.declared.timer.Timer.{Timer}
-use Rattle.timer.specs.Timer.{withCount, withReady, isTimer, countedDown, counterPulsed, timerPulsed, pulsedBy, startedOf, stoppedOf, modeChanged}
-use Rattle.timer.specs.Counts.{afterPulses, pulsesOf, Counts, Gone, Toggles, Obeys}
 use Rattle.clocks.proofs.Laws.Runs.{Turn, turn, first-whole, both-runs, alternates}
 use Rattle.clocks.proofs.Laws.Runs.Turn.{goes, ends}
+use Rattle.counting.specs.declared.counting.Counted.{Counted}
+use Rattle.counting.specs.declared.counting.Timer.{Timer}
+use Rattle.counting.specs.Counting.{withCount, withReady, isTimer, countedDown, counterPulsed, timerPulsed, pulsedBy}
+use Rattle.timer.specs.Timer.{startedOf, stoppedOf, modeChanged}
+use Rattle.timer.specs.Counts.{afterPulses, pulsesOf, Counts, Gone, Toggles, Obeys}
 
 -- ---- the pulses of a preload ----
 

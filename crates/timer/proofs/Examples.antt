@@ -3,9 +3,10 @@ use Prim.Native.Nat.{ℕ, zero, suc}
 use mathlib.Core.Path.{_≡_, refl}
 use mathlib.Core.Bool.{true, false}
 use Rattle.format.specs.Pick.{pick}
-use Rattle.timer.specs.declared.timer.Timer.{Timer}
 use Rattle.clocks.specs.Divider.{dividedOf, sixteenthOf}
-use Rattle.timer.specs.Timer.{counterPulsed, timerPulsed, pulsedBy, tickedBy, edgedBy, transmittedBy, startedOf, modeChanged}
+use Rattle.counting.specs.declared.counting.Timer.{Timer}
+use Rattle.counting.specs.Counting.{counterPulsed, timerPulsed, pulsedBy}
+use Rattle.timer.specs.Timer.{tickedBy, edgedBy, transmittedBy, startedOf, modeChanged}
 
 -- as after a chip reset, but with a preload
 abbrev loaded : ℕ → Timer

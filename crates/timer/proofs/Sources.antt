@@ -15,14 +15,15 @@ use Rattle.format.specs.Pick.{pick}
 use Rattle.format.proofs.Laws.Pick.{pick-all}
 use Rattle.clocks.specs.declared.divider.Divided.{Divided}
 use Rattle.clocks.specs.declared.divider.Sixteenth.{Sixteenth}
-use Rattle.timer.specs.declared.timer.Counted.{Counted}
-use Rattle.timer.specs.declared.timer.Timer.{Timer}
 use Rattle.clocks.specs.Divider.{dividedOf, sixteenthOf}
-use Rattle.timer.specs.Timer.{withPhases, modeOf, isTimer, countedDown, tickPulses, edgePulses, transmitterPulses, counterPulsed, timerPulsed, pulsedBy, tickedBy, edgedBy, transmittedBy, startedOf, stoppedOf, modeChanged}
+use Rattle.clocks.proofs.Laws.Divider.{ticksOf, pulsesOf, divided-at, sixteenth-at}
+use Rattle.counting.specs.declared.counting.Counted.{Counted}
+use Rattle.counting.specs.declared.counting.Timer.{Timer}
+use Rattle.counting.specs.Counting.{withPhases, modeOf, isTimer, countedDown, tickPulses, edgePulses, transmitterPulses, counterPulsed, timerPulsed, pulsedBy}
+use Rattle.timer.specs.Timer.{tickedBy, edgedBy, transmittedBy, startedOf, stoppedOf, modeChanged}
 use Rattle.timer.specs.Counts.{Kept, Leaves}
 use Rattle.timer.specs.Sources.{Ways, Sources, Happening, isTick, isEdge, howMany, happens, since, AlwaysRuns}
 use Rattle.timer.specs.Sources.Happening.{tick, edge, start, stop, bits, acr, preload}
-use Rattle.clocks.proofs.Laws.Divider.{ticksOf, pulsesOf, divided-at, sixteenth-at}
 
 -- ---- what leaves the preload and the phases alone ----
 

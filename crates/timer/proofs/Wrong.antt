@@ -7,10 +7,11 @@ use mathlib.Core.List.{[], _∷_}
 use native.Mathlib.Omega.{arith}
 use lib.Dec.{eqb}
 use Rattle.format.specs.Pick.{pick}
-use Rattle.timer.specs.declared.timer.Counted.{Counted}
-use Rattle.timer.specs.declared.timer.Timer.{Timer}
 use Rattle.clocks.specs.Divider.{dividedOf, sixteenthOf}
-use Rattle.timer.specs.Timer.{freshTimer, withCount, withRunning, withReady, withPhases, modeOf, isTimer, countedDown, counterPulsed, timerPulsed, pulsedBy, tickedBy, edgedBy, transmittedBy, startedOf, stoppedOf, modeChanged}
+use Rattle.counting.specs.declared.counting.Counted.{Counted}
+use Rattle.counting.specs.declared.counting.Timer.{Timer}
+use Rattle.counting.specs.Counting.{freshTimer, withCount, withRunning, withReady, withPhases, modeOf, isTimer, countedDown, counterPulsed, timerPulsed, pulsedBy}
+use Rattle.timer.specs.Timer.{tickedBy, edgedBy, transmittedBy, startedOf, stoppedOf, modeChanged}
 use Rattle.timer.specs.Counts.{Pulsing, Command, afterPulses, Leaves, Counts, Toggles, Obeys}
 use Rattle.timer.specs.Sources.{Ways, Sources, howMany, since, withPreload, AlwaysRuns}
 use Rattle.timer.specs.Sources.Happening.{tick, start}

@@ -5,9 +5,9 @@ use mathlib.Core.Path.{_≡_}
 use mathlib.Core.Bool.{Bool, true, false, _&&_, _||_}
 use lib.Dec.{eqb, leb}
 use Rattle.format.specs.Pick.{pick}
-use Rattle.timer.specs.declared.timer.Counted.{Counted}
-use Rattle.timer.specs.declared.timer.Timer.{Timer}
-use Rattle.timer.specs.Timer.{withCount, withRunning, withReady, modeOf, isTimer, countedDown}
+use Rattle.counting.specs.declared.counting.Counted.{Counted}
+use Rattle.counting.specs.declared.counting.Timer.{Timer}
+use Rattle.counting.specs.Counting.{withCount, withRunning, withReady, modeOf, isTimer, countedDown}
 
 -- a way to take a pulse of its clock, or none, in a mode
 abbrev pub Pulsing : Type 0

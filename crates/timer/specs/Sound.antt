@@ -3,7 +3,7 @@
 use mathlib.Core.Path.{_≡_}
 use mathlib.Core.Bool.{Bool, true, _&&_}
 use lib.Dec.{leb}
-use Rattle.timer.specs.declared.timer.Timer.{Timer}
+use Rattle.counting.specs.declared.counting.Timer.{Timer}
 
 -- both /16 phases
 abbrev pub timerInRange : Timer → Bool

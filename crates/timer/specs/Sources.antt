@@ -6,9 +6,9 @@ use mathlib.Core.Bool.{Bool, true, false}
 use mathlib.Core.List.{List, [], _∷_}
 use lib.Dec.{eqb}
 use Rattle.format.specs.Digits.{bit}
-use Rattle.timer.specs.declared.timer.Counted.{Counted}
-use Rattle.timer.specs.declared.timer.Timer.{Timer}
-use Rattle.timer.specs.Timer.{freshTimer, withPhases, modeOf, tickPulses, edgePulses, transmitterPulses}
+use Rattle.counting.specs.declared.counting.Counted.{Counted}
+use Rattle.counting.specs.declared.counting.Timer.{Timer}
+use Rattle.counting.specs.Counting.{freshTimer, withPhases, modeOf, tickPulses, edgePulses, transmitterPulses}
 use Rattle.timer.specs.Counts.{Pulsing}
 
 -- ways to take what may pulse it

@@ -7,11 +7,12 @@ use native.Mathlib.Omega.{arith}
 use lib.Dec.{eqb, leb}
 use borrow.Author.Tests.{leb-true, le-leb}
 use Rattle.format.proofs.Laws.Pick.{pick-all}
-use Rattle.timer.specs.declared.timer.Counted.{Counted}
-use Rattle.timer.specs.declared.timer.Timer.{Timer}
-use Rattle.timer.specs.Timer.{freshTimer, modeOf, isTimer, countedDown, counterPulsed, timerPulsed, pulsedBy, tickedBy, edgedBy, transmittedBy, startedOf, stoppedOf, modeChanged}
-use Rattle.timer.specs.Sound.{timerInRange, KeepsTimer}
 use Rattle.clocks.proofs.Laws.Ranges.{divided-most, sixteenth-most}
+use Rattle.counting.specs.declared.counting.Counted.{Counted}
+use Rattle.counting.specs.declared.counting.Timer.{Timer}
+use Rattle.counting.specs.Counting.{freshTimer, modeOf, isTimer, countedDown, counterPulsed, timerPulsed, pulsedBy}
+use Rattle.timer.specs.Timer.{tickedBy, edgedBy, transmittedBy, startedOf, stoppedOf, modeChanged}
+use Rattle.timer.specs.Sound.{timerInRange, KeepsTimer}
 
 -- of the ticks, and of the edges
 abbrev Inside : Timer → Type 0
