@@ -1,0 +1,18 @@
+-- `isr_of` meets its contract: it is what its callees answer. Assumes nothing.
+use borrow.Author.Needs.{needs}
+use Rattle.answers.proofs.answers.isr_of.Statement.{statement}
+use Rattle.answers.proofs.answers.isr_of.Tie as tie
+use Rattle.answers.specs.Answers.{isrOf}
+
+has-chosen-change-requires : tie.Need-has-chosen-change-requires
+has-chosen-change-requires c κs = search needs
+
+interrupt-status-requires : tie.Need-interrupt-status-requires
+interrupt-status-requires c κs = search needs
+
+returns : tie.Need-returns
+unfolding isrOf
+returns c = simp (c .interrupt-status .ensures, c .before .has-chosen-change .ensures)
+
+pub isr-of-spec : {M : Type 1} → statement M
+isr-of-spec = tie.close (tie.spec has-chosen-change-requires interrupt-status-requires returns)

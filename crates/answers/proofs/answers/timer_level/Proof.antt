@@ -1,0 +1,20 @@
+-- `timer_level` meets its contract: each way through the tests is the definition's, with the callee's answer. Assumes nothing.
+use borrow.Author.Needs.{needs}
+use Rattle.answers.proofs.answers.timer_level.Statement.{statement}
+use Rattle.answers.proofs.answers.timer_level.Tie as tie
+use Rattle.format.proofs.Laws.{steps}
+use Rattle.answers.specs.Answers.{timerLevel}
+
+returns : tie.Need-returns
+unfolding timerLevel
+returns c = search steps
+
+has-bit-requires : tie.Need-has-bit-requires
+has-bit-requires c κs = search needs
+
+returns-2 : tie.Need-returns-2
+unfolding timerLevel
+returns-2 c = simp (c .has-bit .ensures) (search steps)
+
+pub timer-level-spec : {M : Type 1} → statement M
+timer-level-spec = tie.close (tie.spec returns has-bit-requires returns-2)

@@ -1,0 +1,2 @@
+-- What a reader must believe of the lines and of the data byte.
+pub mod Answers

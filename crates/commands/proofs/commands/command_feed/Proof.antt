@@ -1,0 +1,23 @@
+-- `command_feed` meets its contract: it is what its callees answer. Assumes nothing.
+use borrow.Author.Needs.{needs}
+use Rattle.commands.proofs.commands.command_feed.Statement.{statement}
+use Rattle.commands.proofs.commands.command_feed.Tie as tie
+use Rattle.commands.specs.Commands.{commandFeed}
+
+effect-bits-requires : tie.Need-effect-bits-requires
+effect-bits-requires c κs = search needs
+
+receiver-enabling-requires : tie.Need-receiver-enabling-requires
+receiver-enabling-requires c κs = search needs
+
+receiver-effect-requires : tie.Need-receiver-effect-requires
+receiver-effect-requires c κs = search needs
+
+returns : tie.Need-returns
+unfolding commandFeed
+returns c = simp (c .receiver-effect .ensures, c .before .receiver-enabling .ensures, c .before .before .before .effect-bits .ensures)
+
+pub command-feed-spec : {M : Type 1} → statement M
+command-feed-spec =
+    tie.close
+    (tie.spec effect-bits-requires receiver-enabling-requires receiver-effect-requires returns)

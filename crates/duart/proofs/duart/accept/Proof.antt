@@ -1,0 +1,15 @@
+-- `accept` meets its contract: it is what its callees answer. Assumes nothing.
+use borrow.Author.Needs.{needs}
+use Rattle.duart.proofs.duart.accept.Statement.{statement}
+use Rattle.duart.proofs.duart.accept.Tie as tie
+use Rattle.duart.specs.Duart.{acceptedOf}
+
+device-lines-requires : tie.Need-device-lines-requires
+device-lines-requires c κs = search needs
+
+returns : tie.Need-returns
+unfolding acceptedOf
+returns c = simp (c .device-lines .ensures)
+
+pub accept-spec : {M : Type 1} → statement M
+accept-spec = tie.close (tie.spec device-lines-requires returns)

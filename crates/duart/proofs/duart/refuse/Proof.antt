@@ -1,0 +1,15 @@
+-- `refuse` meets its contract: it is what its callees answer. Assumes nothing.
+use borrow.Author.Needs.{needs}
+use Rattle.duart.proofs.duart.refuse.Statement.{statement}
+use Rattle.duart.proofs.duart.refuse.Tie as tie
+use Rattle.duart.specs.Duart.{refusedOf}
+
+refusal-lines-requires : tie.Need-refusal-lines-requires
+refusal-lines-requires c κs = search needs
+
+returns : tie.Need-returns
+unfolding refusedOf
+returns c = simp (c .refusal-lines .ensures)
+
+pub refuse-spec : {M : Type 1} → statement M
+refuse-spec = tie.close (tie.spec refusal-lines-requires returns)

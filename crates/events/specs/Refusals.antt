@@ -1,0 +1,55 @@
+-- The rows of the table of answers that hang on the event and the front alone, each by itself. Assumes nothing.
+use Prim.Native.Nat.{ℕ}
+use mathlib.Core.Bool.{Bool, false, _&&_, _||_}
+use lib.Dec.{eqb, ltb}
+use Rattle.format.specs.Pick.{pick}
+use Rattle.commands.specs.Commands.{commandForbidden}
+use Rattle.front.specs.declared.front.Front.{Front}
+use Rattle.outputs.specs.Outputs.{opcrNotModelled}
+use Rattle.side.specs.Side.{modeNotModelled}
+use Rattle.events.specs.declared.events.Event.{Event}
+use Rattle.events.specs.declared.events.Event.the-variants.{ChipReset, Read, Write, Acknowledge, Pins, Tick}
+
+-- 2: "register above 15"
+unfoldable pub registerAbove15 : Event → Bool
+registerAbove15 ChipReset = false
+registerAbove15 (Read n) = ltb 15 n
+registerAbove15 (Write n byte) = ltb 15 n
+registerAbove15 Acknowledge = false
+registerAbove15 (Pins levels) = false
+registerAbove15 Tick = false
+
+-- 3: "read of register 2 or 10"
+unfoldable pub forbiddenRead : Event → Bool
+forbiddenRead ChipReset = false
+forbiddenRead (Read n) = eqb n 2 || eqb n 10
+forbiddenRead (Write n byte) = false
+forbiddenRead Acknowledge = false
+forbiddenRead (Pins levels) = false
+forbiddenRead Tick = false
+
+-- 4: "command whose bits 3-2 or 1-0 are 11"; a command is a write of register 2 or 10
+unfoldable pub forbiddenCommand : Event → Bool
+forbiddenCommand ChipReset = false
+forbiddenCommand (Read n) = false
+forbiddenCommand (Write n byte) = (eqb n 2 || eqb n 10) && commandForbidden byte
+forbiddenCommand Acknowledge = false
+forbiddenCommand (Pins levels) = false
+forbiddenCommand Tick = false
+
+-- a setting not modelled can be chosen in MR1 or MR2, where that channel's pointer is, and in OPCR
+unfoldable pub writeNotModelled : Front → ℕ → ℕ → Bool
+writeNotModelled f n byte =
+    pick (eqb n 0) (modeNotModelled (f .a) byte)
+    (pick (eqb n 8) (modeNotModelled (f .b) byte)
+    (pick (eqb n 13) (opcrNotModelled byte)
+    false))
+
+-- 5: "a write .. choosing a setting not modelled"
+unfoldable pub settingNotModelled : Front → Event → Bool
+settingNotModelled f ChipReset = false
+settingNotModelled f (Read n) = false
+settingNotModelled f (Write n byte) = writeNotModelled f n byte
+settingNotModelled f Acknowledge = false
+settingNotModelled f (Pins levels) = false
+settingNotModelled f Tick = false

@@ -1,0 +1,2 @@
+-- What a reader must believe of the input pins.
+pub mod Inputs

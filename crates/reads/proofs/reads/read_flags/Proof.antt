@@ -1,0 +1,15 @@
+-- `read_flags` meets its contract: it is what its callees answer. Assumes nothing.
+use borrow.Author.Needs.{needs}
+use Rattle.reads.proofs.reads.read_flags.Statement.{statement}
+use Rattle.reads.proofs.reads.read_flags.Tie as tie
+use Rattle.reads.specs.Reads.{flagsRead}
+
+clear-changes-requires : tie.Need-clear-changes-requires
+clear-changes-requires c κs = search needs
+
+returns : tie.Need-returns
+unfolding flagsRead
+returns c = simp (c .clear-changes .ensures)
+
+pub read-flags-spec : {M : Type 1} → statement M
+read-flags-spec = tie.close (tie.spec clear-changes-requires returns)

@@ -1,0 +1,18 @@
+-- `start` meets its contract: it is what its callees answer. Assumes nothing.
+use borrow.Author.Needs.{needs}
+use Rattle.reads.proofs.reads.start.Statement.{statement}
+use Rattle.reads.proofs.reads.start.Tie as tie
+use Rattle.reads.specs.Reads.{counterStarted}
+
+mode-of-requires : tie.Need-mode-of-requires
+mode-of-requires c κs = search needs
+
+start-counter-requires : tie.Need-start-counter-requires
+start-counter-requires c κs = search needs
+
+returns : tie.Need-returns
+unfolding counterStarted
+returns c = simp (c .start-counter .ensures, c .before .mode-of .ensures)
+
+pub start-spec : {M : Type 1} → statement M
+start-spec = tie.close (tie.spec mode-of-requires start-counter-requires returns)

@@ -1,0 +1,18 @@
+-- `stop` meets its contract: it is what its callees answer. Assumes nothing.
+use borrow.Author.Needs.{needs}
+use Rattle.reads.proofs.reads.stop.Statement.{statement}
+use Rattle.reads.proofs.reads.stop.Tie as tie
+use Rattle.reads.specs.Reads.{counterStopped}
+
+mode-of-requires : tie.Need-mode-of-requires
+mode-of-requires c κs = search needs
+
+stop-counter-requires : tie.Need-stop-counter-requires
+stop-counter-requires c κs = search needs
+
+returns : tie.Need-returns
+unfolding counterStopped
+returns c = simp (c .stop-counter .ensures, c .before .mode-of .ensures)
+
+pub stop-spec : {M : Type 1} → statement M
+stop-spec = tie.close (tie.spec mode-of-requires stop-counter-requires returns)

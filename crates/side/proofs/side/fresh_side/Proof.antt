@@ -1,0 +1,18 @@
+-- `fresh_side` meets its contract: it is what its callees answer. Assumes nothing.
+use borrow.Author.Needs.{needs}
+use Rattle.side.proofs.side.fresh_side.Statement.{statement}
+use Rattle.side.proofs.side.fresh_side.Tie as tie
+use Rattle.side.specs.Side.{freshSide}
+
+fresh-transmitter-requires : tie.Need-fresh-transmitter-requires
+fresh-transmitter-requires c κs = search needs
+
+restart-requires : tie.Need-restart-requires
+restart-requires c κs = search needs
+
+returns : tie.Need-returns
+unfolding freshSide
+returns c = simp (c .restart .ensures, c .before .fresh-transmitter .ensures)
+
+pub fresh-side-spec : {M : Type 1} → statement M
+fresh-side-spec = tie.close (tie.spec fresh-transmitter-requires restart-requires returns)

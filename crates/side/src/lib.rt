@@ -1,0 +1,19 @@
+// One channel's side of the front: its mode registers and their pointer, CSR, the receiver's enable, the
+// transmitter and the phases of its clocks. A and B are two of these.
+//
+// One file a topic; specs/ has the definitions of each under the same name. Of the receiver the side knows
+// its enable alone, and what it hands to it.
+mod clocking;
+mod side;
+
+pub use clocking::Clocking;
+pub use clocking::clock_side;
+pub use side::Side;
+pub use side::change_set;
+pub use side::fresh_side;
+pub use side::mode_not_modelled;
+pub use side::mode_register;
+pub use side::point;
+pub use side::write_buffer;
+pub use side::write_csr;
+pub use side::write_mode;

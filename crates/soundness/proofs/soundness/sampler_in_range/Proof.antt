@@ -1,0 +1,13 @@
+-- `sampler_in_range` meets its contract: it is what its callees answer. Assumes nothing.
+use borrow.Author.Needs.{needs}
+use Rattle.soundness.proofs.soundness.sampler_in_range.Statement.{statement}
+use Rattle.soundness.proofs.soundness.sampler_in_range.Tie as tie
+
+setting-in-range-requires : tie.Need-setting-in-range-requires
+setting-in-range-requires c κs = search needs
+
+returns : tie.Need-returns
+returns c = simp (c .before .before .setting-in-range .ensures)
+
+pub sampler-in-range-spec : {M : Type 1} → statement M
+sampler-in-range-spec = tie.close (tie.spec setting-in-range-requires returns)

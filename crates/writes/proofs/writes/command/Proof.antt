@@ -1,0 +1,18 @@
+-- `command` meets its contract: it is what its callees answer. Assumes nothing.
+use borrow.Author.Needs.{needs}
+use Rattle.writes.proofs.writes.command.Statement.{statement}
+use Rattle.writes.proofs.writes.command.Tie as tie
+use Rattle.writes.specs.Writes.{commanded}
+
+command-side-requires : tie.Need-command-side-requires
+command-side-requires c κs = search needs
+
+command-feed-requires : tie.Need-command-feed-requires
+command-feed-requires c κs = search needs
+
+returns : tie.Need-returns
+unfolding commanded
+returns c = simp (c .command-feed .ensures, c .before .command-side .ensures)
+
+pub command-spec : {M : Type 1} → statement M
+command-spec = tie.close (tie.spec command-side-requires command-feed-requires returns)

@@ -1,0 +1,87 @@
+-- "Read / write: 0 MR1 then MR2 (both); 1 SR / CSR; 2 none / command; 3 receive / transmit buffer; 4 IPCR / ACR; 5 ISR / IMR; 6, 7 count high,
+-- low / preload high, low; 8-11 as 0-3 for channel B; 12 IVR (both); 13 input port / OPCR; 14 start counter / set OP bits; 15 stop counter /
+-- reset OP bits.": the writes. Assumes nothing.
+use Prim.Native.Nat.{ℕ, _+_, _*_, _/_, _%_}
+use lib.Dec.{eqb}
+use Rattle.format.specs.Pick.{pick}
+use Rattle.commands.specs.Commands.{sideCommanded, commandFeed}
+use Rattle.front.specs.declared.front.Front.{Front}
+use Rattle.front.specs.declared.front.Handed.{Handed}
+use Rattle.front.specs.declared.front.SideHanded.{SideHanded}
+use Rattle.front.specs.Front.{withSides, withPorts, withRegisters, handedNothing, handedA, handedB}
+use Rattle.outputs.specs.declared.outputs.Outputs.{Outputs}
+use Rattle.outputs.specs.Outputs.{bitsSet, bitsReset, outputsChosen}
+use Rattle.receiver.specs.declared.receiver.Feed.the-variants.{Nothing}
+use Rattle.side.specs.declared.side.Side.{Side}
+use Rattle.side.specs.Side.{modeWritten, csrWritten, bufferWritten, setChanged}
+use Rattle.counting.specs.declared.counting.Timer.{Timer}
+use Rattle.timer.specs.Timer.{modeChanged}
+
+-- ---- a channel's registers 0 to 3 ----
+
+abbrev pub unhanded : Side → SideHanded
+unhanded s = record { side = s; feed = Nothing }
+
+abbrev pub commanded : Side → ℕ → SideHanded
+commanded s byte = record { side = sideCommanded s byte; feed = commandFeed s byte }
+
+unfoldable pub sideWritten : Side → ℕ → ℕ → SideHanded
+sideWritten s n byte =
+    pick (eqb n 0) (unhanded (modeWritten s byte))
+    (pick (eqb n 1) (unhanded (csrWritten s byte))
+    (pick (eqb n 2) (commanded s byte)
+    (unhanded (bufferWritten s byte))))
+
+-- ---- the registers that both channels share ----
+
+-- "a change of ACR bit 7 restarts all four"; "A change of ACR 6-4 reloads, .."
+unfoldable pub acrWritten : Front → ℕ → Front
+acrWritten f byte =
+    withRegisters
+    (withSides f (setChanged (f .a) (f .acr) byte) (setChanged (f .b) (f .acr) byte) (modeChanged (f .timer) (f .acr) byte))
+    byte (f .imr) (f .ivr)
+
+abbrev pub imrWritten : Front → ℕ → Front
+imrWritten f byte = withRegisters f (f .acr) byte (f .ivr)
+
+abbrev pub ivrWritten : Front → ℕ → Front
+ivrWritten f byte = withRegisters f (f .acr) (f .imr) byte
+
+-- another preload; the count stays
+abbrev pub withPreload : Timer → ℕ → Timer
+withPreload t preload =
+    record { preload = preload; count = t .count; running = t .running; output = t .output; ready = t .ready; ticks = t .ticks; edges = t .edges }
+
+abbrev pub preloadWritten : Front → ℕ → Front
+preloadWritten f preload = withSides f (f .a) (f .b) (withPreload (f .timer) preload)
+
+-- "preload high, low"
+abbrev pub preloadHigh : ℕ → ℕ → ℕ
+preloadHigh preload byte = byte * 256 + preload % 256
+
+abbrev pub preloadLow : ℕ → ℕ → ℕ
+preloadLow preload byte = preload / 256 * 256 + byte
+
+abbrev pub outputsWritten : Front → Outputs → Front
+outputsWritten f o = withPorts f (f .inputs) o
+
+unfoldable pub sharedWritten : Front → ℕ → ℕ → Front
+sharedWritten f n byte =
+    pick (eqb n 4) (acrWritten f byte)
+    (pick (eqb n 5) (imrWritten f byte)
+    (pick (eqb n 6) (preloadWritten f (preloadHigh (f .timer .preload) byte))
+    (pick (eqb n 7) (preloadWritten f (preloadLow (f .timer .preload) byte))
+    (pick (eqb n 12) (ivrWritten f byte)
+    (pick (eqb n 13) (outputsWritten f (outputsChosen (f .outputs) byte))
+    (pick (eqb n 14) (outputsWritten f (bitsSet (f .outputs) byte))
+    (pick (eqb n 15) (outputsWritten f (bitsReset (f .outputs) byte))
+    f)))))))
+
+-- ---- any register ----
+
+-- "8-11 as 0-3 for channel B"
+unfoldable pub registerWritten : Front → ℕ → ℕ → Handed
+registerWritten f n byte =
+    pick (eqb (n / 4) 0) (handedA f (sideWritten (f .a) (n % 4) byte))
+    (pick (eqb (n / 4) 2) (handedB f (sideWritten (f .b) (n % 4) byte))
+    (handedNothing (sharedWritten f n byte)))
