@@ -117,7 +117,7 @@ listRead r [] = record { receiver = r; byte = r .last }
 listRead r (c ∷ h) =
     record {
       receiver =
-        record { sampler = r .sampler; held = h; overrun = r .overrun; sums = orMarks (r .sums) (oldestMarks h); change = r .change; last = c .byte };
+          record { sampler = r .sampler; held = h; overrun = r .overrun; sums = orMarks (r .sums) (oldestMarks h); change = r .change; last = c .byte };
       byte = c .byte;
     }
 
