@@ -68,10 +68,11 @@ fn refusal_lines(device: Device, number: u8) -> Lines
 fn refuse(device: Device, number: u8) -> Answer
     ensures { λ r. ⌜ r ≡ refusedOf device number ⌝ }
 {
+    let lines = refusal_lines(device, number);
     Answer {
         number: number,
         byte: 0,
-        lines: refusal_lines(device, number),
+        lines: lines,
         state: device,
     }
 }

@@ -63,20 +63,9 @@ fn clock(front: Front, before: u8, tick: bool) -> Handed
     let after = front.inputs.levels;
     let second = front.acr / 128 == 1;
     let counted = count(front, before, tick);
-    let a = clock_side(
-        front.a,
-        second,
-        pins_of_a(before, after),
-        tick,
-        counted.toggled,
-    );
-    let b = clock_side(
-        front.b,
-        second,
-        pins_of_b(before, after),
-        tick,
-        counted.toggled,
-    );
+    let toggled = counted.toggled;
+    let a = clock_side(front.a, second, pins_of_a(before, after), tick, toggled);
+    let b = clock_side(front.b, second, pins_of_b(before, after), tick, toggled);
     clock_with(front, counted.timer, a, b)
 }
 
