@@ -1,10 +1,12 @@
--- The lines and the data byte, from the front and from what the channels show. Of the receivers nothing else is seen. Assumes nothing.
-use Prim.Native.Nat.{ℕ, _/_, _%_}
+-- The lines and the data byte, from the front and from what the channels show. Of the receivers nothing else is
+-- seen but the byte that a read of the buffer takes. Assumes nothing.
+use Prim.Native.Nat.{ℕ}
 use mathlib.Core.Bool.{Bool, false, not}
 use lib.Bits.{bitAnd}
 use lib.Dec.{eqb}
 use Rattle.format.specs.Pick.{pick}
 use Rattle.bytes.specs.Bytes.{hasBit}
+use Rattle.counting.specs.Counting.{modeOf, isTimer}
 use Rattle.events.specs.declared.events.Event.{Event}
 use Rattle.events.specs.declared.events.Event.the-variants.{ChipReset, Read, Write, Acknowledge, Pins, Tick}
 use Rattle.front.specs.declared.front.Front.{Front}
@@ -22,9 +24,9 @@ isrOf f a b = interruptStatus (hasChosenChange (f .inputs) (f .acr)) (f .timer .
 unfoldable pub assertedOf : Front → Shown → Shown → Bool
 assertedOf f a b = not (eqb (bitAnd (isrOf f a b) (f .imr)) 0)
 
--- "OPCR 3-2 = 01 puts the timer output on OP3, or in counter mode the complement of ISR bit 3."; ACR 6-4: "0-3 counter .. 4-7 timer"
+-- "OPCR 3-2 = 01 puts the timer output on OP3, or in counter mode the complement of ISR bit 3."
 unfoldable pub timerLevel : Front → ℕ → Bool
-timerLevel f isr = pick (eqb (f .acr / 64 % 2) 1) (f .timer .output) (not (hasBit isr 3))
+timerLevel f isr = pick (isTimer (modeOf (f .acr))) (f .timer .output) (not (hasBit isr 3))
 
 -- "IRQ (1 when asserted), TxDA, TxDB, the OP0-OP7 levels"
 unfoldable pub linesOf : Front → Shown → Shown → Lines

@@ -1,5 +1,7 @@
 // The lines and the data byte.
 use bytes::has_bit;
+use counting::is_timer;
+use counting::mode_of;
 use events::Event;
 use front::Front;
 use inputs::has_chosen_change;
@@ -39,11 +41,11 @@ pub fn is_asserted(front: Front, a: Shown, b: Shown) -> bool
     isr_of(front, a, b) & front.imr != 0
 }
 
-// "the timer output on OP3, or in counter mode the complement of ISR bit 3": ACR 6-4 of 4 to 7 are timer modes.
+// "the timer output on OP3, or in counter mode the complement of ISR bit 3"
 fn timer_level(front: Front, isr: u8) -> bool
     ensures { λ r. ⌜ r ≡ timerLevel front isr ⌝ }
 {
-    if front.acr / 64 % 2 == 1 {
+    if is_timer(mode_of(front.acr)) {
         return front.timer.output;
     }
     !has_bit(isr, 3)

@@ -40,6 +40,7 @@ use Rattle.answers.specs.Answers.{assertedOf, linesOf, noLines, eventData}
 use Rattle.duart.specs.declared.device.Device.{Device}
 use Rattle.duart.specs.declared.duart.Answer.{Answer}
 use Rattle.duart.specs.Device.{isSoundOf}
+use Rattle.duart.specs.Refusals.{sixRows}
 use Rattle.chip.specs.Table.{Step}
 
 -- ---- a receiver that holds a list ----
@@ -192,14 +193,8 @@ listUnasserted d Tick = false
 -- the table of answers
 unfoldable pub listNumber : ListDevice → Event → ℕ
 listNumber d e =
-    pick (not (listIsSound d)) 1
-    (pick (registerAbove15 e) 2
-    (pick (forbiddenRead e) 3
-    (pick (forbiddenCommand e) 4
-    (pick (settingNotModelled (d .front) e) 5
-    (pick (listUnasserted d e) 6
-    (pick (not (listIsSound (listNext d e))) 7
-    0))))))
+    sixRows (not (listIsSound d)) (registerAbove15 e) (forbiddenRead e) (forbiddenCommand e) (settingNotModelled (d .front) e) (listUnasserted d e)
+    (pick (not (listIsSound (listNext d e))) 7 0)
 
 unfoldable pub listRefused : ListDevice → ℕ → ListAnswer
 listRefused d n = record { seen = record { number = n; byte = 0; lines = pick (eqb n 1) noLines (listLines d) }; state = d }
@@ -231,7 +226,9 @@ unfoldable pub listAllSeen : (ListDevice → Event → ListAnswer) → ListDevic
 listAllSeen step d [] = []
 listAllSeen step d (e ∷ es) = step d e .seen ∷ listAllSeen step (step d e .state) es
 
--- a laid-out chip and one over lists give the same answers, less the states: to every event on a sound device, and to every list of events
+-- A laid-out chip and one over lists (it is proved of `stepOf` and `listStepOf`) give the same answers, less the states, to every event on a sound
+-- device and to every list of events; and the new state means the other's new state. An unsound layout need not mean an unsound list: one that
+-- counts five means a list of four.
 pub record SameAnswers (step : Step) (other : ListDevice → Event → ListAnswer) : Type 0 where
   pub answers : (d : Device) (e : Event) → isSoundOf d ≡ true → seenOf (step d e) ≡ other (listsOf d) e .seen
   pub states : (d : Device) (e : Event) → isSoundOf d ≡ true → listsOf (step d e .state) ≡ other (listsOf d) e .state

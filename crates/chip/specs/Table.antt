@@ -18,7 +18,7 @@ use Rattle.duart.specs.Refusals.{unsound, acknowledgedUnasserted}
 abbrev pub Step : Type 0
 Step = Device → Event → Answer
 
--- the rows by their numbers, each its own predicate; there is no row 0 and none above 7
+-- Rows 1 to 7 by their numbers, each its own predicate: 0 is acceptance, and row 8 is the frame request's.
 unfoldable pub row : ℕ → Device → Event → Bool
 row k d e =
     pick (eqb k 1) (unsound d)
@@ -30,7 +30,7 @@ row k d e =
     (pick (eqb k 7) (newUnsound d e)
     false))))))
 
--- row k applies, and no earlier one
+-- Row k applies, and no earlier one. (Row 7 never does: `never-seven`.)
 pub record First (k : ℕ) (d : Device) (e : Event) : Type 0 where
   pub applies : row k d e ≡ true
   pub earlier : (j : ℕ) → j < k → row j d e ≡ false

@@ -4,15 +4,15 @@ use mathlib.Core.Bool.{Bool, not, _&&_, _||_}
 use lib.Dec.{eqb}
 use Rattle.format.specs.Pick.{pick}
 use Rattle.receiver.specs.declared.receiver.Effect.{Effect}
-use Rattle.receiver.specs.declared.receiver.Effect.the-variants as Effects
+use Rattle.receiver.specs.declared.receiver.Effect.the-variants as Receivers
 use Rattle.receiver.specs.declared.receiver.Enabling.{Enabling}
 use Rattle.receiver.specs.declared.receiver.Enabling.the-variants.{Stays, Enables, Disables}
 use Rattle.receiver.specs.declared.receiver.Feed.{Feed}
 use Rattle.receiver.specs.declared.receiver.Feed.the-variants.{Command}
 use Rattle.side.specs.declared.side.Side.{Side}
-use Rattle.side.specs.Side.{withModes, withEnabled, withTransmitter}
+use Rattle.side.specs.Side.{withEnabled, withTransmitter, pointedAt}
 use Rattle.transmitter.specs.declared.transmitter.Input.{Input}
-use Rattle.transmitter.specs.declared.transmitter.Input.the-variants as Inputs
+use Rattle.transmitter.specs.declared.transmitter.Input.the-variants as Transmitters
 use Rattle.transmitter.specs.Transmitter.{afterInput}
 
 -- "command whose bits 3-2 or 1-0 are 11"
@@ -27,26 +27,26 @@ effectBits byte = byte / 16 % 8
 -- "3 reset transmitter (disabled, all dropped, TxD high)"; "6, 7 start, stop break"
 unfoldable pub transmitterEffect : ℕ → Input
 transmitterEffect bits =
-    pick (eqb bits 3) Inputs.Reset
-    (pick (eqb bits 6) Inputs.StartBreak
-    (pick (eqb bits 7) Inputs.StopBreak Inputs.Nothing))
+    pick (eqb bits 3) Transmitters.Reset
+    (pick (eqb bits 6) Transmitters.StartBreak
+    (pick (eqb bits 7) Transmitters.StopBreak Transmitters.Nothing))
 
 -- "2 reset receiver"; "4 clear overrun, block sums and the top character's marks; 5 clear break change"
 unfoldable pub receiverEffect : ℕ → Effect
 receiverEffect bits =
-    pick (eqb bits 2) Effects.Reset
-    (pick (eqb bits 4) Effects.ClearErrors
-    (pick (eqb bits 5) Effects.ClearBreakChange Effects.NoEffect))
+    pick (eqb bits 2) Receivers.Reset
+    (pick (eqb bits 4) Receivers.ClearErrors
+    (pick (eqb bits 5) Receivers.ClearBreakChange Receivers.NoEffect))
 
 -- "2 reset receiver (disabled; ..)": the enable after bits 6-4
-abbrev pub enabledThen : Side → ℕ → Bool
-enabledThen s byte = s .enabled && not (eqb (effectBits byte) 2)
+abbrev pub enabledThen : Bool → ℕ → Bool
+enabledThen enabled effect = enabled && not (eqb effect 2)
 
 -- ---- bits 3-2 ----
 
 -- "01 enable, 10 disable transmitter"
 unfoldable pub transmitterEnabling : ℕ → Input
-transmitterEnabling bits = pick (eqb bits 1) Inputs.Enable (pick (eqb bits 2) Inputs.Disable Inputs.Nothing)
+transmitterEnabling bits = pick (eqb bits 1) Transmitters.Enable (pick (eqb bits 2) Transmitters.Disable Transmitters.Nothing)
 
 -- ---- bits 1-0 ----
 
@@ -62,12 +62,12 @@ enabledAfter enabled bits = eqb bits 1 || (enabled && not (eqb bits 2))
 -- the side; "1 pointer to MR1"
 unfoldable pub sideCommanded : Side → ℕ → Side
 sideCommanded s byte =
-    withModes
+    pointedAt
     (withEnabled
     (withTransmitter s (afterInput (afterInput (s .transmitter) (transmitterEffect (effectBits byte))) (transmitterEnabling (byte / 4 % 4))))
-    (enabledAfter (enabledThen s byte) (byte % 4)))
-    (s .mr1) (s .mr2) (s .moved && not (eqb (effectBits byte) 1))
+    (enabledAfter (enabledThen (s .enabled) (effectBits byte)) (byte % 4)))
+    (s .moved && not (eqb (effectBits byte) 1))
 
 -- the receiver
 unfoldable pub commandFeed : Side → ℕ → Feed
-commandFeed s byte = Command (receiverEffect (effectBits byte)) (receiverEnabling (enabledThen s byte) (byte % 4))
+commandFeed s byte = Command (receiverEffect (effectBits byte)) (receiverEnabling (enabledThen (s .enabled) (effectBits byte)) (byte % 4))

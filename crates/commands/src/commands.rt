@@ -7,7 +7,7 @@ use side::Side;
 use transmitter::Input;
 use transmitter::step_transmitter;
 ghost use mathlib.Core.Path.{_≡_};
-ghost use Rattle.commands.specs.Commands.{commandForbidden, effectBits, transmitterEffect, transmitterEnabling, receiverEffect, receiverEnabling, enabledAfter, sideCommanded, commandFeed};
+ghost use Rattle.commands.specs.Commands.{commandForbidden, effectBits, transmitterEffect, transmitterEnabling, receiverEffect, receiverEnabling, enabledThen, enabledAfter, sideCommanded, commandFeed};
 
 // "command whose bits 3-2 or 1-0 are 11"
 pub fn command_forbidden(byte: u8) -> bool
@@ -84,6 +84,13 @@ fn receiver_enabling(enabled: bool, bits: u8) -> Enabling
     Enabling::Stays
 }
 
+// The receiver's enable after bits 6-4: "2 reset receiver (disabled; ..".
+fn enabled_then(enabled: bool, effect: u8) -> bool
+    ensures { λ r. ⌜ r ≡ enabledThen enabled effect ⌝ }
+{
+    enabled & (effect != 2)
+}
+
 // The receiver's enable after bits 1-0.
 fn enabled_after(enabled: bool, bits: u8) -> bool
     ensures { λ r. ⌜ r ≡ enabledAfter enabled bits ⌝ }
@@ -91,14 +98,16 @@ fn enabled_after(enabled: bool, bits: u8) -> bool
     (bits == 1) | (enabled & (bits != 2))
 }
 
-// The side: "1 pointer to MR1"; "2 reset receiver (disabled ..)".
+// The side: "1 pointer to MR1".
 pub fn command_side(side: Side, byte: u8) -> Side
     ensures { λ r. ⌜ r ≡ sideCommanded side byte ⌝ }
 {
     let effect = effect_bits(byte);
-    let first = step_transmitter(side.transmitter, transmitter_effect(effect));
-    let transmitter = step_transmitter(first, transmitter_enabling(byte / 4 % 4));
-    let enabled = enabled_after(side.enabled & (effect != 2), byte % 4);
+    let effect_input = transmitter_effect(effect);
+    let enabling_input = transmitter_enabling(byte / 4 % 4);
+    let first = step_transmitter(side.transmitter, effect_input);
+    let transmitter = step_transmitter(first, enabling_input);
+    let enabled = enabled_after(enabled_then(side.enabled, effect), byte % 4);
     let mut s = side;
     s.moved = side.moved & (effect != 1);
     s.enabled = enabled;
@@ -111,6 +120,6 @@ pub fn command_feed(side: Side, byte: u8) -> Feed
     ensures { λ r. ⌜ r ≡ commandFeed side byte ⌝ }
 {
     let effect = effect_bits(byte);
-    let enabling = receiver_enabling(side.enabled & (effect != 2), byte % 4);
+    let enabling = receiver_enabling(enabled_then(side.enabled, effect), byte % 4);
     Feed::Command(receiver_effect(effect), enabling)
 }

@@ -15,6 +15,11 @@ freshTimer =
 
 -- ---- a timer with another part ----
 
+-- another preload; the count stays
+abbrev pub withPreload : Timer → ℕ → Timer
+withPreload t n =
+    record { preload = n; count = t .count; running = t .running; output = t .output; ready = t .ready; ticks = t .ticks; edges = t .edges }
+
 -- another count and output
 abbrev pub withCount : Timer → ℕ → Bool → Timer
 withCount t n high =

@@ -29,7 +29,7 @@ takenOf d e =
 abbrev pub newUnsound : Device → Event → Bool
 newUnsound d e = not (isSoundOf (takenOf d e .state))
 
--- the table, whole: the first row that applies, 0 where none does
+-- rows 1 to 7 (row 8 is the frame request's): the first that applies, 0 where none does
 unfoldable pub numberOf : Device → Event → ℕ
 numberOf d e = firstOf d e (pick (newUnsound d e) 7 0)
 

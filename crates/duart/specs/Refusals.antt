@@ -26,13 +26,11 @@ acknowledgedUnasserted d Acknowledge = not (deviceAsserted d)
 acknowledgedUnasserted d (Pins levels) = false
 acknowledgedUnasserted d Tick = false
 
--- "Checked in this order.": the first of rows 1 to 6 that applies, and what comes after them where none does
+-- "Checked in this order.": the first of six rows that applies, by their tests, and what comes after them where none does
+abbrev pub sixRows : Bool → Bool → Bool → Bool → Bool → Bool → ℕ → ℕ
+sixRows a b c d e f after = pick a 1 (pick b 2 (pick c 3 (pick d 4 (pick e 5 (pick f 6 after)))))
+
 unfoldable pub firstOf : Device → Event → ℕ → ℕ
 firstOf d e after =
-    pick (unsound d) 1
-    (pick (registerAbove15 e) 2
-    (pick (forbiddenRead e) 3
-    (pick (forbiddenCommand e) 4
-    (pick (settingNotModelled (d .front) e) 5
-    (pick (acknowledgedUnasserted d e) 6
-    after)))))
+    sixRows (unsound d) (registerAbove15 e) (forbiddenRead e) (forbiddenCommand e) (settingNotModelled (d .front) e)
+    (acknowledgedUnasserted d e) after

@@ -1,7 +1,7 @@
 // The MC68681 by value: one event, one answer.
 //
 // A device is a front and two receivers; one event gives one answer, which holds the new state. One file a
-// topic; specs/ has the definitions of each under the same name, and what is owed of the whole.
+// topic; specs/ has the definitions of each under the same name; what is owed of the whole is stated in the crate `chip`.
 mod device;
 mod duart;
 mod refusals;

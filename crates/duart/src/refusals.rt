@@ -9,6 +9,7 @@ use events::is_forbidden_read;
 use events::is_register_above_15;
 use shown::show_channel;
 ghost use mathlib.Core.Path.{_≡_};
+ghost use Rattle.format.specs.Pick.{pick};
 ghost use Rattle.duart.specs.Refusals.{deviceAsserted, acknowledgedUnasserted, firstOf};
 
 fn is_device_asserted(device: Device) -> bool
@@ -19,7 +20,7 @@ fn is_device_asserted(device: Device) -> bool
     is_asserted(device.front, a, b)
 }
 
-// "6: acknowledge while IRQ is not asserted"
+// 6: "acknowledge while IRQ is not asserted"
 fn is_unasserted_acknowledge(device: Device, event: Event) -> bool
     ensures { λ r. ⌜ r ≡ acknowledgedUnasserted device event ⌝ }
 {
@@ -33,27 +34,30 @@ fn is_unasserted_acknowledge(device: Device, event: Event) -> bool
     }
 }
 
+// A row of the table: its number where it applies, else what the rows after it answer.
+fn row(applies: bool, number: u8, later: u8) -> u8
+    ensures { λ r. ⌜ r ≡ pick applies number later ⌝ }
+{
+    if applies {
+        return number;
+    }
+    later
+}
+
 // "Checked in this order.": the first of rows 1 to 6 that applies, 0 where none does.
 pub fn first_refusal(device: Device, event: Event) -> u8
     ensures { λ r. ⌜ r ≡ firstOf device event 0 ⌝ }
 {
-    if !is_sound(device) {
-        return 1;
-    }
-    if is_register_above_15(event) {
-        return 2;
-    }
-    if is_forbidden_read(event) {
-        return 3;
-    }
-    if is_forbidden_command(event) {
-        return 4;
-    }
-    if chooses_not_modelled(device.front, event) {
-        return 5;
-    }
-    if is_unasserted_acknowledge(device, event) {
-        return 6;
-    }
-    0
+    let unsound = !is_sound(device);
+    let above_15 = is_register_above_15(event);
+    let forbidden_read = is_forbidden_read(event);
+    let forbidden_command = is_forbidden_command(event);
+    let not_modelled = chooses_not_modelled(device.front, event);
+    let unasserted = is_unasserted_acknowledge(device, event);
+    let from_6 = row(unasserted, 6, 0);
+    let from_5 = row(not_modelled, 5, from_6);
+    let from_4 = row(forbidden_command, 4, from_5);
+    let from_3 = row(forbidden_read, 3, from_4);
+    let from_2 = row(above_15, 2, from_3);
+    row(unsound, 1, from_2)
 }

@@ -13,7 +13,7 @@ use Rattle.events.specs.declared.events.Event.the-variants.{ChipReset, R
 abbrev pub frontReset : Front → Handed
 frontReset f = record { front = frontAt (f .inputs .levels); a = Feeds.ChipReset; b = Feeds.ChipReset }
 
--- "acknowledge then reads IVR and changes nothing"
+-- "acknowledge .. changes nothing"
 unfoldable pub frontStepped : Front → Event → Handed
 frontStepped f ChipReset = frontReset f
 frontStepped f (Read n) = registerRead f n

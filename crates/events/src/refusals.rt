@@ -7,7 +7,7 @@ use side::mode_not_modelled;
 ghost use mathlib.Core.Path.{_≡_};
 ghost use Rattle.events.specs.Refusals.{registerAbove15, forbiddenRead, forbiddenCommand, writeNotModelled, settingNotModelled};
 
-// "2: register above 15"
+// 2: "register above 15"
 pub fn is_register_above_15(event: Event) -> bool
     ensures { λ r. ⌜ r ≡ registerAbove15 event ⌝ }
 {
@@ -21,7 +21,7 @@ pub fn is_register_above_15(event: Event) -> bool
     }
 }
 
-// "3: read of register 2 or 10"
+// 3: "read of register 2 or 10"
 pub fn is_forbidden_read(event: Event) -> bool
     ensures { λ r. ⌜ r ≡ forbiddenRead event ⌝ }
 {
@@ -35,7 +35,7 @@ pub fn is_forbidden_read(event: Event) -> bool
     }
 }
 
-// "4: command whose bits 3-2 or 1-0 are 11": a write of register 2 or 10 is a command.
+// 4: "command whose bits 3-2 or 1-0 are 11": a write of register 2 or 10 is a command.
 pub fn is_forbidden_command(event: Event) -> bool
     ensures { λ r. ⌜ r ≡ forbiddenCommand event ⌝ }
 {
@@ -63,7 +63,7 @@ fn write_not_modelled(front: Front, register: u8, byte: u8) -> bool
     }
 }
 
-// "5: a write .. choosing a setting not modelled"
+// 5: "a write .. choosing a setting not modelled"
 pub fn chooses_not_modelled(front: Front, event: Event) -> bool
     ensures { λ r. ⌜ r ≡ settingNotModelled front event ⌝ }
 {

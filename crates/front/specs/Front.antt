@@ -3,6 +3,7 @@ use Prim.Native.Nat.{ℕ}
 use Rattle.inputs.specs.declared.inputs.Inputs.{Inputs}
 use Rattle.outputs.specs.declared.outputs.Outputs.{Outputs}
 use Rattle.outputs.specs.Outputs.{freshOutputs}
+use Rattle.receiver.specs.declared.receiver.Feed.{Feed}
 use Rattle.receiver.specs.declared.receiver.Feed.the-variants.{Nothing}
 use Rattle.side.specs.declared.side.Side.{Side}
 use Rattle.side.specs.Side.{freshSide}
@@ -34,6 +35,10 @@ abbrev pub withSides : Front → Side → Side → Timer → Front
 withSides f a b t =
     record { a = a; b = b; timer = t; inputs = f .inputs; outputs = f .outputs; acr = f .acr; imr = f .imr; ivr = f .ivr }
 
+-- another counter/timer
+abbrev pub withTimer : Front → Timer → Front
+withTimer f t = withSides f (f .a) (f .b) t
+
 -- other pins
 abbrev pub withPorts : Front → Inputs → Outputs → Front
 withPorts f i o = record { a = f .a; b = f .b; timer = f .timer; inputs = i; outputs = o; acr = f .acr; imr = f .imr; ivr = f .ivr }
@@ -44,6 +49,9 @@ withRegisters f acr imr ivr =
     record { a = f .a; b = f .b; timer = f .timer; inputs = f .inputs; outputs = f .outputs; acr = acr; imr = imr; ivr = ivr }
 
 -- ---- what an access hands to the receivers ----
+
+abbrev pub sideHanded : Side → Feed → SideHanded
+sideHanded s feed = record { side = s; feed = feed }
 
 abbrev pub handedNothing : Front → Handed
 handedNothing f = record { front = f; a = Nothing; b = Nothing }

@@ -8,7 +8,7 @@ use receiver::Feed;
 use side::Side;
 use side::fresh_side;
 ghost use mathlib.Core.Path.{_≡_};
-ghost use Rattle.front.specs.Front.{frontAt, handedNothing, handedA, handedB};
+ghost use Rattle.front.specs.Front.{frontAt, sideHanded, handedNothing, handedA, handedB};
 
 #[repr(C)]
 pub struct Front {
@@ -54,6 +54,16 @@ pub fn front_at(levels: u8) -> Front
     }
 }
 
+// A side after an access, and what its receiver is handed.
+pub fn hand_side(side: Side, feed: Feed) -> SideHanded
+    ensures { λ r. ⌜ r ≡ sideHanded side feed ⌝ }
+{
+    SideHanded {
+        side: side,
+        feed: feed,
+    }
+}
+
 pub fn hand_nothing(front: Front) -> Handed
     ensures { λ r. ⌜ r ≡ handedNothing front ⌝ }
 {
@@ -68,13 +78,14 @@ pub fn hand_a(front: Front, handed: SideHanded) -> Handed
     ensures { λ r. ⌜ r ≡ handedA front handed ⌝ }
 {
     let side = handed.side;
-    let feed = handed.feed;
+    let feed_a = handed.feed;
+    let feed_b = Feed::Nothing;
     let mut f = front;
     f.a = side;
     Handed {
         front: f,
-        a: feed,
-        b: Feed::Nothing,
+        a: feed_a,
+        b: feed_b,
     }
 }
 
@@ -82,12 +93,13 @@ pub fn hand_b(front: Front, handed: SideHanded) -> Handed
     ensures { λ r. ⌜ r ≡ handedB front handed ⌝ }
 {
     let side = handed.side;
-    let feed = handed.feed;
+    let feed_a = Feed::Nothing;
+    let feed_b = handed.feed;
     let mut f = front;
     f.b = side;
     Handed {
         front: f,
-        a: Feed::Nothing,
-        b: feed,
+        a: feed_a,
+        b: feed_b,
     }
 }

@@ -15,3 +15,4 @@ pub use front::front_at;
 pub use front::hand_a;
 pub use front::hand_b;
 pub use front::hand_nothing;
+pub use front::hand_side;

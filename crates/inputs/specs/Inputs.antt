@@ -26,7 +26,7 @@ inputPort i = i .levels % 64 + 192
 abbrev pub changeRegister : Inputs → ℕ
 changeRegister i = i .changes % 16 * 16 + i .levels % 16
 
--- "a read clears the flags"; a chip reset too: "Pin levels stay."
+-- "a read clears the flags"
 abbrev pub changesCleared : Inputs → Inputs
 changesCleared i = record { levels = i .levels; changes = 0 }
 

@@ -59,7 +59,7 @@ pub fn change_register(inputs: Inputs) -> u8
     inputs.changes % 16 * 16 + inputs.levels % 16
 }
 
-// "a read clears the flags"; and so does a chip reset: "Pin levels stay."
+// "a read clears the flags"
 pub fn clear_changes(inputs: Inputs) -> Inputs
     ensures { λ r. ⌜ r ≡ changesCleared inputs ⌝ }
 {

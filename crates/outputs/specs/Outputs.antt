@@ -32,11 +32,11 @@ unfoldable pub drivenBy : Outputs → ℕ → ℕ → ℕ → Bool
 drivenBy o isr pin source = pick (hasBit (o .opcr) pin) (hasBit isr source) (hasBit (o .bits) pin)
 
 -- "OPCR 3-2 = 01 puts the timer output on OP3, or in counter mode the complement of ISR bit 3.": `timer` is that level
-unfoldable pub drivenThird : Outputs → Bool → Bool
-drivenThird o timer = pick (eqb (o .opcr / 4 % 4) 1) (not timer) (hasBit (o .bits) 3)
+unfoldable pub drivenOp3 : Outputs → Bool → Bool
+drivenOp3 o timer = pick (eqb (o .opcr / 4 % 4) 1) (not timer) (hasBit (o .bits) 3)
 
 -- "OP pins are the complement of the output bits."
 unfoldable pub opLevels : Outputs → ℕ → Bool → ℕ
 opLevels o isr timer =
     255 - byteOf (drivenBy o isr 7 4) (drivenBy o isr 6 0) (drivenBy o isr 5 5) (drivenBy o isr 4 1)
-    (drivenThird o timer) (hasBit (o .bits) 2) (hasBit (o .bits) 1) (hasBit (o .bits) 0)
+    (drivenOp3 o timer) (hasBit (o .bits) 2) (hasBit (o .bits) 1) (hasBit (o .bits) 0)

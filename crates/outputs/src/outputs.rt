@@ -2,7 +2,7 @@
 use bytes::byte_of;
 use bytes::has_bit;
 ghost use mathlib.Core.Path.{_≡_};
-ghost use Rattle.outputs.specs.Outputs.{freshOutputs, bitsSet, bitsReset, outputsChosen, opcrNotModelled, drivenBy, drivenThird, opLevels};
+ghost use Rattle.outputs.specs.Outputs.{freshOutputs, bitsSet, bitsReset, outputsChosen, opcrNotModelled, drivenBy, drivenOp3, opLevels};
 
 #[repr(C)]
 pub struct Outputs {
@@ -67,8 +67,8 @@ fn driven_by(outputs: Outputs, isr: u8, pin: u8, source: u8) -> bool
 
 // "OPCR 3-2 = 01 puts the timer output on OP3, or in counter mode the complement of ISR bit 3.": what OP3
 // is the complement of, `timer` being that level.
-fn driven_third(outputs: Outputs, timer: bool) -> bool
-    ensures { λ r. ⌜ r ≡ drivenThird outputs timer ⌝ }
+fn driven_op3(outputs: Outputs, timer: bool) -> bool
+    ensures { λ r. ⌜ r ≡ drivenOp3 outputs timer ⌝ }
 {
     if outputs.opcr / 4 % 4 == 1 {
         return !timer;
@@ -85,7 +85,7 @@ pub fn op_levels(outputs: Outputs, isr: u8, timer: bool) -> u8
         driven_by(outputs, isr, 6, 0),
         driven_by(outputs, isr, 5, 5),
         driven_by(outputs, isr, 4, 1),
-        driven_third(outputs, timer),
+        driven_op3(outputs, timer),
         has_bit(outputs.bits, 2),
         has_bit(outputs.bits, 1),
         has_bit(outputs.bits, 0),

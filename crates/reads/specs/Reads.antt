@@ -8,9 +8,8 @@ use Rattle.format.specs.Pick.{pick}
 use Rattle.front.specs.declared.front.Front.{Front}
 use Rattle.front.specs.declared.front.Handed.{Handed}
 use Rattle.front.specs.declared.front.SideHanded.{SideHanded}
-use Rattle.front.specs.Front.{withSides, withPorts, handedNothing, handedA, handedB}
+use Rattle.front.specs.Front.{withTimer, withPorts, sideHanded, handedNothing, handedA, handedB}
 use Rattle.inputs.specs.Inputs.{inputPort, changeRegister, changesCleared}
-use Rattle.receiver.specs.declared.receiver.Feed.{Feed}
 use Rattle.receiver.specs.declared.receiver.Feed.the-variants.{Nothing, Read}
 use Rattle.side.specs.declared.side.Side.{Side}
 use Rattle.side.specs.Side.{modeRegister, pointedAt}
@@ -21,14 +20,11 @@ use Rattle.timer.specs.Timer.{startedOf, stoppedOf}
 
 -- "Any access at MR1 moves the pointer to MR2, where it stays."
 abbrev pub modeRead : Side → SideHanded
-modeRead s = record { side = pointedAt s true; feed = Nothing }
+modeRead s = sideHanded (pointedAt s true) Nothing
 
-abbrev pub bufferRead : Side → Feed → SideHanded
-bufferRead s feed = record { side = s; feed = feed }
-
--- a status read does nothing
+-- the receive buffer; a status read does nothing
 unfoldable pub sideRead : Side → ℕ → SideHanded
-sideRead s n = pick (eqb n 0) (modeRead s) (pick (eqb n 3) (bufferRead s Read) (bufferRead s Nothing))
+sideRead s n = pick (eqb n 0) (modeRead s) (pick (eqb n 3) (sideHanded s Read) (sideHanded s Nothing))
 
 -- ---- the registers that both channels share ----
 
@@ -37,10 +33,10 @@ abbrev pub flagsRead : Front → Front
 flagsRead f = withPorts f (changesCleared (f .inputs)) (f .outputs)
 
 abbrev pub counterStarted : Front → Front
-counterStarted f = withSides f (f .a) (f .b) (startedOf (f .timer) (modeOf (f .acr)))
+counterStarted f = withTimer f (startedOf (f .timer) (modeOf (f .acr)))
 
 abbrev pub counterStopped : Front → Front
-counterStopped f = withSides f (f .a) (f .b) (stoppedOf (f .timer) (modeOf (f .acr)))
+counterStopped f = withTimer f (stoppedOf (f .timer) (modeOf (f .acr)))
 
 unfoldable pub sharedRead : Front → ℕ → Front
 sharedRead f n = pick (eqb n 4) (flagsRead f) (pick (eqb n 14) (counterStarted f) (pick (eqb n 15) (counterStopped f) f))

@@ -8,6 +8,7 @@ use front::SideHanded;
 use front::hand_a;
 use front::hand_b;
 use front::hand_nothing;
+use front::hand_side;
 use inputs::change_register;
 use inputs::clear_changes;
 use inputs::input_port;
@@ -18,29 +19,16 @@ use side::point;
 use timer::start_counter;
 use timer::stop_counter;
 ghost use mathlib.Core.Path.{_≡_};
-ghost use Rattle.reads.specs.Reads.{modeRead, bufferRead, sideRead, flagsRead, counterStarted, counterStopped, sharedRead, registerRead, frontData};
+ghost use Rattle.reads.specs.Reads.{modeRead, sideRead, flagsRead, counterStarted, counterStopped, sharedRead, registerRead, frontData};
 
 // "Any access at MR1 moves the pointer to MR2, where it stays."
 fn read_mode(side: Side) -> SideHanded
     ensures { λ r. ⌜ r ≡ modeRead side ⌝ }
 {
-    SideHanded {
-        side: point(side, true),
-        feed: Feed::Nothing,
-    }
+    hand_side(point(side, true), Feed::Nothing)
 }
 
-// The receive buffer, and what a side's other registers do when they are read: nothing.
-fn hand_side(side: Side, feed: Feed) -> SideHanded
-    ensures { λ r. ⌜ r ≡ bufferRead side feed ⌝ }
-{
-    SideHanded {
-        side: side,
-        feed: feed,
-    }
-}
-
-// A channel's registers 0 to 3.
+// A channel's registers 0 to 3: but for the mode registers and the receive buffer a read does nothing.
 fn read_side(side: Side, register: u8) -> SideHanded
     ensures { λ r. ⌜ r ≡ sideRead side register ⌝ }
 {

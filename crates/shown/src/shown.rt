@@ -9,7 +9,7 @@ use transmitter::transmitter_status;
 ghost use mathlib.Core.Path.{_≡_};
 ghost use Rattle.shown.specs.Shown.{statusRegister, receivedOf, channelShown, interruptStatus};
 
-// What a channel shows: of its receiver, and of its transmitter, nothing else is seen outside.
+// What a channel shows in SR and ISR.
 pub struct Shown {
     // SR
     pub status: u8,

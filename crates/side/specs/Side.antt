@@ -46,7 +46,7 @@ modeRegister s = pick (s .moved) (s .mr2) (s .mr1)
 unfoldable pub modeNotModelled : Side → ℕ → Bool
 modeNotModelled s byte = pick (s .moved) (mr2NotModelled byte) (mr1NotModelled byte)
 
--- "1 pointer to MR1"; "Any access at MR1 moves the pointer to MR2, where it stays."
+-- "1 pointer to MR1"; "Any access at MR1 moves the pointer to MR2, where it stays.": the pointer, at MR2 or at MR1
 abbrev pub pointedAt : Side → Bool → Side
 pointedAt s moved = withModes s (s .mr1) (s .mr2) moved
 

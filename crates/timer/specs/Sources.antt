@@ -8,7 +8,7 @@ use lib.Dec.{eqb}
 use Rattle.format.specs.Digits.{bit}
 use Rattle.counting.specs.declared.counting.Counted.{Counted}
 use Rattle.counting.specs.declared.counting.Timer.{Timer}
-use Rattle.counting.specs.Counting.{freshTimer, withPhases, modeOf, tickPulses, edgePulses, transmitterPulses}
+use Rattle.counting.specs.Counting.{freshTimer, withPhases, modeOf, tickPulses, edgePulses, transmitterPulses, withPreload}
 use Rattle.timer.specs.Counts.{Pulsing}
 
 -- ways to take what may pulse it
@@ -55,9 +55,6 @@ isEdge (preload n) = false
 unfoldable pub howMany : (Happening → Bool) → List Happening → ℕ
 howMany is [] = 0
 howMany is (x ∷ xs) = howMany is xs + bit (is x)
-
-abbrev pub withPreload : Timer → ℕ → Timer
-withPreload t n = record { preload = n; count = t .count; running = t .running; output = t .output; ready = t .ready; ticks = t .ticks; edges = t .edges }
 
 -- the counter/timer and ACR after one more
 abbrev pub happens : Ways → Happening → Timer × ℕ → Timer × ℕ

@@ -8,29 +8,26 @@ use Rattle.commands.specs.Commands.{sideCommanded, commandFeed}
 use Rattle.front.specs.declared.front.Front.{Front}
 use Rattle.front.specs.declared.front.Handed.{Handed}
 use Rattle.front.specs.declared.front.SideHanded.{SideHanded}
-use Rattle.front.specs.Front.{withSides, withPorts, withRegisters, handedNothing, handedA, handedB}
+use Rattle.front.specs.Front.{withSides, withTimer, withPorts, withRegisters, sideHanded, handedNothing, handedA, handedB}
 use Rattle.outputs.specs.declared.outputs.Outputs.{Outputs}
 use Rattle.outputs.specs.Outputs.{bitsSet, bitsReset, outputsChosen}
 use Rattle.receiver.specs.declared.receiver.Feed.the-variants.{Nothing}
 use Rattle.side.specs.declared.side.Side.{Side}
 use Rattle.side.specs.Side.{modeWritten, csrWritten, bufferWritten, setChanged}
-use Rattle.counting.specs.declared.counting.Timer.{Timer}
+use Rattle.counting.specs.Counting.{withPreload}
 use Rattle.timer.specs.Timer.{modeChanged}
 
 -- ---- a channel's registers 0 to 3 ----
 
-abbrev pub unhanded : Side → SideHanded
-unhanded s = record { side = s; feed = Nothing }
-
 abbrev pub commanded : Side → ℕ → SideHanded
-commanded s byte = record { side = sideCommanded s byte; feed = commandFeed s byte }
+commanded s byte = sideHanded (sideCommanded s byte) (commandFeed s byte)
 
 unfoldable pub sideWritten : Side → ℕ → ℕ → SideHanded
 sideWritten s n byte =
-    pick (eqb n 0) (unhanded (modeWritten s byte))
-    (pick (eqb n 1) (unhanded (csrWritten s byte))
+    pick (eqb n 0) (sideHanded (modeWritten s byte) Nothing)
+    (pick (eqb n 1) (sideHanded (csrWritten s byte) Nothing)
     (pick (eqb n 2) (commanded s byte)
-    (unhanded (bufferWritten s byte))))
+    (sideHanded (bufferWritten s byte) Nothing)))
 
 -- ---- the registers that both channels share ----
 
@@ -47,13 +44,9 @@ imrWritten f byte = withRegisters f (f .acr) byte (f .ivr)
 abbrev pub ivrWritten : Front → ℕ → Front
 ivrWritten f byte = withRegisters f (f .acr) (f .imr) byte
 
--- another preload; the count stays
-abbrev pub withPreload : Timer → ℕ → Timer
-withPreload t preload =
-    record { preload = preload; count = t .count; running = t .running; output = t .output; ready = t .ready; ticks = t .ticks; edges = t .edges }
-
+-- the count stays
 abbrev pub preloadWritten : Front → ℕ → Front
-preloadWritten f preload = withSides f (f .a) (f .b) (withPreload (f .timer) preload)
+preloadWritten f preload = withTimer f (withPreload (f .timer) preload)
 
 -- "preload high, low"
 abbrev pub preloadHigh : ℕ → ℕ → ℕ

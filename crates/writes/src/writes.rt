@@ -9,6 +9,7 @@ use front::SideHanded;
 use front::hand_a;
 use front::hand_b;
 use front::hand_nothing;
+use front::hand_side;
 use outputs::Outputs;
 use outputs::choose_outputs;
 use outputs::reset_bits;
@@ -21,25 +22,12 @@ use side::write_csr;
 use side::write_mode;
 use timer::change_mode;
 ghost use mathlib.Core.Path.{_≡_};
-ghost use Rattle.writes.specs.Writes.{unhanded, commanded, sideWritten, acrWritten, preloadWritten, preloadHigh, preloadLow, outputsWritten, imrWritten, ivrWritten, sharedWritten, registerWritten};
-
-// A side's register that hands nothing to the receiver.
-fn hand_no_more(side: Side) -> SideHanded
-    ensures { λ r. ⌜ r ≡ unhanded side ⌝ }
-{
-    SideHanded {
-        side: side,
-        feed: Feed::Nothing,
-    }
-}
+ghost use Rattle.writes.specs.Writes.{commanded, sideWritten, acrWritten, preloadWritten, preloadHigh, preloadLow, outputsWritten, imrWritten, ivrWritten, sharedWritten, registerWritten};
 
 fn command(side: Side, byte: u8) -> SideHanded
     ensures { λ r. ⌜ r ≡ commanded side byte ⌝ }
 {
-    SideHanded {
-        side: command_side(side, byte),
-        feed: command_feed(side, byte),
-    }
+    hand_side(command_side(side, byte), command_feed(side, byte))
 }
 
 // A channel's registers 0 to 3.
@@ -47,10 +35,10 @@ fn write_side(side: Side, register: u8, byte: u8) -> SideHanded
     ensures { λ r. ⌜ r ≡ sideWritten side register byte ⌝ }
 {
     match register {
-        0 => hand_no_more(write_mode(side, byte)),
-        1 => hand_no_more(write_csr(side, byte)),
+        0 => hand_side(write_mode(side, byte), Feed::Nothing),
+        1 => hand_side(write_csr(side, byte), Feed::Nothing),
         2 => command(side, byte),
-        _ => hand_no_more(write_buffer(side, byte)),
+        _ => hand_side(write_buffer(side, byte), Feed::Nothing),
     }
 }
 

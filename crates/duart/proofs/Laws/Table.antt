@@ -12,11 +12,7 @@ use Rattle.events.specs.Refusals.{registerAbove15, forbiddenRead, forbiddenComm
 use Rattle.duart.specs.declared.device.Device.{Device}
 use Rattle.duart.specs.Device.{isSoundOf}
 use Rattle.duart.specs.Duart.{takenOf, numberOf, refusedOf, acceptedOf, stepOf}
-use Rattle.duart.specs.Refusals.{unsound, acknowledgedUnasserted, firstOf}
-
--- six rows, by their tests
-abbrev pub sixRows : Bool → Bool → Bool → Bool → Bool → Bool → ℕ → ℕ
-sixRows a b c d e f after = pick a 1 (pick b 2 (pick c 3 (pick d 4 (pick e 5 (pick f 6 after)))))
+use Rattle.duart.specs.Refusals.{unsound, acknowledgedUnasserted, sixRows, firstOf}
 
 none-of-six : (a b c d e f : Bool) (after : ℕ) → sixRows a b c d e f 0 ≡ 0 → sixRows a b c d e f after ≡ after
 unfolding pick

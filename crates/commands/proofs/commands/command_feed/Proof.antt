@@ -7,6 +7,9 @@ use Rattle.commands.specs.Commands.{commandFeed}
 effect-bits-requires : tie.Need-effect-bits-requires
 effect-bits-requires c κs = search needs
 
+enabled-then-requires : tie.Need-enabled-then-requires
+enabled-then-requires c κs = search needs
+
 receiver-enabling-requires : tie.Need-receiver-enabling-requires
 receiver-enabling-requires c κs = search needs
 
@@ -15,9 +18,14 @@ receiver-effect-requires c κs = search needs
 
 returns : tie.Need-returns
 unfolding commandFeed
-returns c = simp (c .receiver-effect .ensures, c .before .receiver-enabling .ensures, c .before .before .before .effect-bits .ensures)
+returns c = simp (c .receiver-effect .ensures, c .before .receiver-enabling .ensures, c .before .before .enabled-then .ensures, c .before .before .before .effect-bits .ensures)
 
 pub command-feed-spec : {M : Type 1} → statement M
 command-feed-spec =
     tie.close
-    (tie.spec effect-bits-requires receiver-enabling-requires receiver-effect-requires returns)
+    (tie.spec
+    effect-bits-requires
+    enabled-then-requires
+    receiver-enabling-requires
+    receiver-effect-requires
+    returns)

@@ -10,21 +10,24 @@ effect-bits-requires c κs = search needs
 transmitter-effect-requires : tie.Need-transmitter-effect-requires
 transmitter-effect-requires c κs = search needs
 
-step-transmitter-requires : tie.Need-step-transmitter-requires
-step-transmitter-requires c κs = search needs
-
 transmitter-enabling-requires : tie.Need-transmitter-enabling-requires
 transmitter-enabling-requires c κs = search needs
 
+step-transmitter-requires : tie.Need-step-transmitter-requires
+step-transmitter-requires c κs = search needs
+
 step-transmitter-requires-2 : tie.Need-step-transmitter-requires-2
 step-transmitter-requires-2 c κs = search needs
+
+enabled-then-requires : tie.Need-enabled-then-requires
+enabled-then-requires c κs = search needs
 
 enabled-after-requires : tie.Need-enabled-after-requires
 enabled-after-requires c κs = search needs
 
 returns : tie.Need-returns
 unfolding sideCommanded
-returns c = simp (c .before .enabled-after .ensures, c .before .before .before .step-transmitter2 .ensures, c .before .before .before .before .transmitter-enabling .ensures, c .before .before .before .before .before .step-transmitter .ensures, c .before .before .before .before .before .before .transmitter-effect .ensures, c .before .before .before .before .before .before .before .effect-bits .ensures)
+returns c = simp (c .before .enabled-after .ensures, c .before .before .enabled-then .ensures, c .before .before .before .step-transmitter2 .ensures, c .before .before .before .before .step-transmitter .ensures, c .before .before .before .before .before .transmitter-enabling .ensures, c .before .before .before .before .before .before .transmitter-effect .ensures, c .before .before .before .before .before .before .before .effect-bits .ensures)
 
 pub command-side-spec : {M : Type 1} → statement M
 command-side-spec =
@@ -32,8 +35,9 @@ command-side-spec =
     (tie.spec
     effect-bits-requires
     transmitter-effect-requires
-    step-transmitter-requires
     transmitter-enabling-requires
+    step-transmitter-requires
     step-transmitter-requires-2
+    enabled-then-requires
     enabled-after-requires
     returns)

@@ -16,8 +16,8 @@ driven-by-requires-3 c κs = search needs
 driven-by-requires-4 : tie.Need-driven-by-requires-4
 driven-by-requires-4 c κs = search needs
 
-driven-third-requires : tie.Need-driven-third-requires
-driven-third-requires c κs = search needs
+driven-op3-requires : tie.Need-driven-op3-requires
+driven-op3-requires c κs = search needs
 
 has-bit-requires : tie.Need-has-bit-requires
 has-bit-requires c κs = search needs
@@ -36,7 +36,7 @@ sub-result c = search needs
 
 returns : tie.Need-returns
 unfolding opLevels
-returns c = simp (c .byte-of .ensures, c .before .has-bit3 .ensures, c .before .before .has-bit2 .ensures, c .before .before .before .has-bit .ensures, c .before .before .before .before .driven-third .ensures, c .before .before .before .before .before .driven-by4 .ensures, c .before .before .before .before .before .before .driven-by3 .ensures, c .before .before .before .before .before .before .before .driven-by2 .ensures, c .before .before .before .before .before .before .before .before .driven-by .ensures)
+returns c = simp (c .byte-of .ensures, c .before .has-bit3 .ensures, c .before .before .has-bit2 .ensures, c .before .before .before .has-bit .ensures, c .before .before .before .before .driven-op3 .ensures, c .before .before .before .before .before .driven-by4 .ensures, c .before .before .before .before .before .before .driven-by3 .ensures, c .before .before .before .before .before .before .before .driven-by2 .ensures, c .before .before .before .before .before .before .before .before .driven-by .ensures)
 
 pub op-levels-spec : {M : Type 1} → statement M
 op-levels-spec =
@@ -46,7 +46,7 @@ op-levels-spec =
     driven-by-requires-2
     driven-by-requires-3
     driven-by-requires-4
-    driven-third-requires
+    driven-op3-requires
     has-bit-requires
     has-bit-requires-2
     has-bit-requires-3
