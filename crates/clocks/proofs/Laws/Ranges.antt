@@ -2,14 +2,13 @@
 -- other rule moves one. Assumes nothing.
 use Prim.Native.Nat.{ℕ, _+_, _≤_}
 use mathlib.Core.Path.{_≡_, refl}
-use mathlib.Core.Bool.{Bool, true, false, and-eq-true-iff}
+use mathlib.Core.Bool.{Bool, true, and-eq-true-iff}
 use native.Mathlib.Omega.{arith}
 use lib.Dec.{eqb, ltb, leb}
 use borrow.Author.Tests.{ltb-true, leb-true, le-leb}
 use Rattle.format.specs.declared.counts.Pulses.{Pulses}
 use Rattle.format.specs.declared.counts.Ticks.{Ticks}
-use Rattle.format.specs.Pick.{pick}
-use Rattle.format.proofs.Laws.Pick.{pick-all}
+use Rattle.format.proofs.Laws.Pick.{pick-all, pick-known}
 use Rattle.clocks.specs.declared.channel.ClockEvent.{ClockEvent}
 use Rattle.clocks.specs.declared.channel.Phases.{Phases}
 use Rattle.clocks.specs.declared.divider.Divided.{Divided}
@@ -19,12 +18,6 @@ use Rattle.clocks.specs.Rates.{periodOf}
 use Rattle.clocks.specs.Channel.{restarted, restartedOnChange, isSixteen, tickedOf, sideOf, transmitter1x, clockedOf}
 use Rattle.clocks.specs.Sound.{phasesInRange, KeepsPhases}
 use Rattle.clocks.proofs.Laws.Rates.{period-between}
-
--- the first of a choice may know that the test held
-pick-known : {A : Type 0} (P : A → Type 0) (t : Bool) (x y : A) → (t ≡ true → P x) → P y → P (pick t x y)
-unfolding pick
-pick-known P true x y p q = p refl
-pick-known P false x y p q = q
 
 -- ---- a channel's phases ----
 

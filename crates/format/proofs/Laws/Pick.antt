@@ -1,5 +1,5 @@
 -- A choice is its first or its second: a proof sees `pick t x y` as one term, and opens it by these. Assumes nothing.
-use mathlib.Core.Path.{_≡_}
+use mathlib.Core.Path.{_≡_, refl}
 use mathlib.Core.Bool.{Bool, true, false}
 use Rattle.format.specs.Pick.{pick}
 
@@ -16,3 +16,9 @@ pub pick-all : {A : Type 0} (P : A → Type 0) (t : Bool) (x y : A) → P x → 
 unfolding pick
 pick-all P true x y p q = p
 pick-all P false x y p q = q
+
+-- the first of a choice may know that the test held
+pub pick-known : {A : Type 0} (P : A → Type 0) (t : Bool) (x y : A) → (t ≡ true → P x) → P y → P (pick t x y)
+unfolding pick
+pick-known P true x y p q = p refl
+pick-known P false x y p q = q

@@ -1,0 +1,2 @@
+-- The laws of the commands. Assumes nothing.
+pub mod Ranges

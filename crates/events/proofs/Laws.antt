@@ -1,0 +1,2 @@
+-- The laws of the events. Assumes nothing.
+pub mod Ranges

@@ -1,0 +1,2 @@
+-- The laws of the front. Assumes nothing.
+pub mod Ranges

@@ -1,0 +1,2 @@
+-- The laws of the input pins. Assumes nothing.
+pub mod Ranges

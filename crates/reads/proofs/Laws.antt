@@ -1,0 +1,2 @@
+-- The laws of the reads. Assumes nothing.
+pub mod Ranges

@@ -1,0 +1,2 @@
+-- The laws of one channel's side. Assumes nothing.
+pub mod Ranges

@@ -1,0 +1,2 @@
+-- The laws of the writes. Assumes nothing.
+pub mod Ranges
