@@ -10,10 +10,10 @@ use Rattle.format.specs.Pick.{pick}
 use Rattle.clocks.specs.Divider.{dividedOf, sixteenthOf}
 use Rattle.counting.specs.declared.counting.Counted.{Counted}
 use Rattle.counting.specs.declared.counting.Timer.{Timer}
-use Rattle.counting.specs.Counting.{freshTimer, withCount, withRunning, withReady, withPhases, modeOf, isTimer, countedDown, counterPulsed, timerPulsed, pulsedBy}
+use Rattle.counting.specs.Counting.{freshTimer, withCount, withRunning, withReady, withPhases, modeOf, isTimer, countedDown, counterPulsed, timerPulsed, pulsedBy, withPreload}
 use Rattle.timer.specs.Timer.{tickedBy, edgedBy, transmittedBy, startedOf, stoppedOf, modeChanged}
 use Rattle.timer.specs.Counts.{Pulsing, Command, afterPulses, Leaves, Counts, Toggles, Obeys}
-use Rattle.timer.specs.Sources.{Ways, Sources, howMany, since, withPreload, AlwaysRuns}
+use Rattle.timer.specs.Sources.{Ways, Sources, howMany, since, AlwaysRuns}
 use Rattle.timer.specs.Sources.Happening.{tick, start}
 
 -- ---- the counter ----

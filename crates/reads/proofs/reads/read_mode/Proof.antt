@@ -1,0 +1,18 @@
+-- `read_mode` meets its contract: it is what its callees answer. Assumes nothing.
+use borrow.Author.Needs.{needs}
+use Rattle.reads.proofs.reads.read_mode.Statement.{statement}
+use Rattle.reads.proofs.reads.read_mode.Tie as tie
+use Rattle.reads.specs.Reads.{modeRead}
+
+point-requires : tie.Need-point-requires
+point-requires c κs = search needs
+
+hand-side-requires : tie.Need-hand-side-requires
+hand-side-requires c κs = search needs
+
+returns : tie.Need-returns
+unfolding modeRead
+returns c = simp (c .hand-side .ensures, c .before .point .ensures)
+
+pub read-mode-spec : {M : Type 1} → statement M
+read-mode-spec = tie.close (tie.spec point-requires hand-side-requires returns)

@@ -1,0 +1,22 @@
+-- `command` meets its contract: it is what its callees answer. Assumes nothing.
+use borrow.Author.Needs.{needs}
+use Rattle.writes.proofs.writes.command.Statement.{statement}
+use Rattle.writes.proofs.writes.command.Tie as tie
+use Rattle.writes.specs.Writes.{commanded}
+
+command-side-requires : tie.Need-command-side-requires
+command-side-requires c κs = search needs
+
+command-feed-requires : tie.Need-command-feed-requires
+command-feed-requires c κs = search needs
+
+hand-side-requires : tie.Need-hand-side-requires
+hand-side-requires c κs = search needs
+
+returns : tie.Need-returns
+unfolding commanded
+returns c = simp (c .hand-side .ensures, c .before .command-feed .ensures, c .before .before .command-side .ensures)
+
+pub command-spec : {M : Type 1} → statement M
+command-spec =
+    tie.close (tie.spec command-side-requires command-feed-requires hand-side-requires returns)
