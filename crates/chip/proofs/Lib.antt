@@ -1,2 +1,2 @@
 -- The theorems of the whole chip.
-pub mod Sound
+pub mod Table
