@@ -1,2 +1,3 @@
 -- The theorems of the whole chip.
 pub mod Table
+pub mod Quiet
