@@ -59,7 +59,7 @@ no-row : (d : Device) (e : Event) → row 0 d e ≡ false
 unfolding row pick
 no-row d e = refl
 
-no-more-rows : (d : Device) (e : Event) (k : ℕ) → 7 < k → row k d e ≡ false
+pub no-more-rows : (d : Device) (e : Event) (k : ℕ) → 7 < k → row k d e ≡ false
 unfolding row pick
 no-more-rows d e k h =
     rw (
