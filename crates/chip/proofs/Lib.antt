@@ -1,4 +1,6 @@
--- The theorems of the whole chip.
+-- The theorems of the whole chip, and the laws that they go by.
+pub mod Laws
 pub mod Table
 pub mod Quiet
 pub mod Alone
+pub mod Lists

@@ -86,7 +86,7 @@ fed-room r ChipReset h = omega arith
 
 -- ---- as soundness states it ----
 
-sound-room : (r : Receiver) → queueInRange (r .queue) ≡ true → waitingSound r ≡ true → Room r
+pub sound-room : (r : Receiver) → queueInRange (r .queue) ≡ true → waitingSound r ≡ true → Room r
 unfolding pick
 sound-room r q w = go (eqb (r .sampler .phase) 2) w
   where

@@ -1,0 +1,2 @@
+-- The laws that the theorems go by, a file a topic. Assumes nothing.
+pub mod Lists

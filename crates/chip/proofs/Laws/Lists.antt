@@ -1,0 +1,126 @@
+-- A receiver that holds a list does what the laid-out receiver does to the list that it means: feed by feed from the laws of the queue, where
+-- there is room for every arrival, and so for every sound receiver. Assumes nothing.
+use Prim.Native.Nat.{_≤_}
+use mathlib.Core.Path.{_≡_, refl, _∙_, ap}
+use mathlib.Core.Bool.{Bool, true, false}
+use native.Mathlib.Omega.{arith}
+use Rattle.format.specs.Pick.{pick}
+use Rattle.character.specs.declared.character.Character.{Character}
+use Rattle.character.specs.declared.character.Marks.{Marks}
+use Rattle.character.specs.Character.{noMarks, orMarks, unmarkedOf}
+use Rattle.sampler.specs.declared.sampler.Came.{Came}
+use Rattle.sampler.specs.declared.sampler.Came.the-variants.{NoCharacter, Arrival}
+use Rattle.sampler.specs.declared.sampler.Sampled.{Sampled}
+use Rattle.sampler.specs.Sampler.{sampleOf}
+use Rattle.sampler.proofs.Laws.Room.{most-four, grown, Roomy, room-sample}
+use Rattle.queue.specs.declared.queue.Queue.{Queue}
+use Rattle.queue.specs.Queue.{heldOf, replaced, isEmptyOf, oldestOf, tookOf, replacedOf}
+use Rattle.queue.proofs.Laws.Queue.{held-length, held-put, held-without-waiting, held-took, held-replaced, held-empty, is-empty-held, oldest-held}
+use Rattle.arrivals.specs.declared.arrivals.Receiver.{Receiver}
+use Rattle.arrivals.specs.Arrivals as Arrivals
+use Rattle.arrivals.specs.Arrivals.{answeredOf, heardOf, startedOf, enteredOf, arrivedOf, pulsedOf}
+use Rattle.receiver.specs.declared.receiver.Effect.{Effect}
+use Rattle.receiver.specs.declared.receiver.Effect.the-variants.{NoEffect, Reset, ClearErrors, ClearBreakChange}
+use Rattle.receiver.specs.declared.receiver.Enabling.{Enabling}
+use Rattle.receiver.specs.declared.receiver.Enabling.the-variants.{Stays, Enables, Disables}
+use Rattle.receiver.specs.declared.receiver.Fed.{Fed}
+use Rattle.receiver.specs.declared.receiver.Feed.{Feed}
+use Rattle.receiver.specs.declared.receiver.Feed.the-variants as Feeds
+use Rattle.receiver.specs.Receiver.{effectOf, enablingOf, oldestRead, readOf, fedOf}
+use Rattle.receiver.specs.Status.{shownMarks, statusOf}
+use Rattle.receiver.proofs.Laws.Waiting.{Room, started-count}
+use Rattle.soundness.specs.Soundness.{receiverSound}
+use Rattle.chip.specs.Lists.{ListFed, oldestMarks, listStarted, summed, listArrived, listAnswered, topUnmarked, listEffect, listEnabling, listRead, listFedOf, listStatus, listSound, listOf}
+
+-- ---- the oldest ----
+
+marks-held : (q : Queue) → Arrivals.oldestMarks q ≡ oldestMarks (heldOf q)
+unfolding Arrivals.oldestMarks oldestMarks pick
+marks-held q = go (isEmptyOf q) refl
+  where
+    go : (t : Bool) → isEmptyOf q ≡ t → pick t noMarks (oldestOf q .marks) ≡ oldestMarks (heldOf q)
+    go true e = rw (is-empty-held q .0 e)
+    go false e = rw (oldest-held q e)
+
+unmarked-held : (q : Queue) → heldOf (replacedOf q (unmarkedOf (oldestOf q))) ≡ topUnmarked (heldOf q)
+unfolding topUnmarked
+unmarked-held q = held-replaced q (unmarkedOf (oldestOf q)) ∙ go (isEmptyOf q) refl
+  where
+    go : (t : Bool) → isEmptyOf q ≡ t → replaced (heldOf q) (unmarkedOf (oldestOf q)) ≡ topUnmarked (heldOf q)
+    go true e = rw (is-empty-held q .0 e)
+    go false e = rw (oldest-held q e)
+
+summed-held : (q : Queue) (sums : Marks) (c : Character) → pick (isEmptyOf q) (orMarks sums (c .marks)) sums ≡ summed (heldOf q) sums c
+unfolding summed pick
+summed-held q sums c = go (isEmptyOf q) refl
+  where
+    go : (t : Bool) → isEmptyOf q ≡ t → pick t (orMarks sums (c .marks)) sums ≡ summed (heldOf q) sums c
+    go true e = rw (is-empty-held q .0 e)
+    go false e = rw (oldest-held q e)
+
+-- ---- what is seen of a receiver ----
+
+pub status-held : (r : Receiver) (block : Bool) → r .queue .count ≤ 4 → listStatus (listOf r) block ≡ statusOf r block
+unfolding shownMarks
+status-held r block h = rw (held-length (r .queue) h, marks-held (r .queue))
+
+pub sound-held : (r : Receiver) → r .queue .count ≤ 4 → listSound (listOf r) ≡ receiverSound r
+sound-held r h = rw (held-length (r .queue) h)
+
+-- ---- a pulse ----
+
+started-held : (r : Receiver) (t : Bool) → r .queue .count ≤ 4 → listStarted (listOf r) t ≡ listOf (startedOf r t)
+unfolding listStarted startedOf pick
+started-held r true h = rw (held-length (r .queue) h, held-without-waiting (r .queue) h)
+started-held r false h = refl
+
+arrived-held : (r : Receiver) (o : Came) → grown o (r .queue .count) ≤ 4 → listArrived (listOf r) o ≡ listOf (arrivedOf r o)
+unfolding listArrived arrivedOf enteredOf
+arrived-held r NoCharacter h = refl
+arrived-held r (Arrival c) h = rw (held-put (r .queue) c (omega arith), summed-held (r .queue))
+
+answered-held : (r : Receiver) (m : Sampled) → r .queue .count ≤ 4 → Roomy (r .queue .count) m → listAnswered (listOf r) m ≡ listOf (answeredOf r m)
+unfolding listAnswered
+answered-held r m four h =
+    let n : Receiver = heardOf r (m .next) (m .change) in
+    let room : grown (m .came) (startedOf n (m .started) .queue .count) ≤ 4 = rw started-count (omega (arith, most-four (m .next))) in
+    rw (started-held n (m .started) four) (arrived-held (startedOf n (m .started)) (m .came) room)
+
+-- ---- a command ----
+
+effect-held : (r : Receiver) (e : Effect) → listEffect (listOf r) e ≡ listOf (effectOf r e)
+unfolding listEffect effectOf
+effect-held r NoEffect = refl
+effect-held r Reset = rw held-empty
+effect-held r ClearErrors = rw (unmarked-held (r .queue))
+effect-held r ClearBreakChange = refl
+
+enabling-held : (r : Receiver) (t : Enabling) → listEnabling (listOf r) t ≡ listOf (enablingOf r t)
+unfolding listEnabling enablingOf
+enabling-held r Stays = refl
+enabling-held r Enables = refl
+enabling-held r Disables = refl
+
+-- ---- any feed ----
+
+-- the list of what a feed leaves, beside the byte that it answers
+abbrev pub fedList : Fed → ListFed
+fedList d = record { receiver = listOf (d .receiver); byte = d .byte }
+
+read-held : (r : Receiver) → r .queue .count ≤ 4 → listRead (listOf r) (heldOf (r .queue)) ≡ fedList (readOf r)
+unfolding listRead readOf oldestRead pick
+read-held r h = go (isEmptyOf (r .queue)) refl
+  where
+    go : (t : Bool) → isEmptyOf (r .queue) ≡ t → listRead (listOf r) (heldOf (r .queue)) ≡ fedList (readOf r)
+    go true e = rw (e, is-empty-held (r .queue) .0 e)
+    go false e = ap (listRead (listOf r)) (oldest-held (r .queue) e) ∙ rw (e, marks-held (tookOf (r .queue)), held-took (r .queue) h)
+
+pub fed-held : (r : Receiver) (e : Feed) → Room r → listFedOf (listOf r) e ≡ fedList (fedOf r e)
+unfolding listFedOf fedOf pulsedOf
+fed-held r Feeds.Nothing h = refl
+fed-held r (Feeds.Pulse level f) h =
+    let four : r .queue .count ≤ 4 = omega (arith, most-four (r .sampler)) in
+    rw (answered-held r (sampleOf (r .sampler) level f) four (room-sample (r .queue .count) (r .sampler) level f h))
+fed-held r (Feeds.Command e t) h = rw (effect-held r e, enabling-held (effectOf r e) t)
+fed-held r Feeds.Read h = read-held r (omega (arith, most-four (r .sampler)))
+fed-held r Feeds.ChipReset h = rw held-empty
