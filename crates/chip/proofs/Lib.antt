@@ -4,3 +4,4 @@ pub mod Table
 pub mod Quiet
 pub mod Alone
 pub mod Lists
+pub mod Examples

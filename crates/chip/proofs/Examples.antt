@@ -1,0 +1,114 @@
+-- Each number of the table of answers is given: an event on a device with the whole answer, computed. 7 is given to none on a sound device, and an
+-- unsound one is answered 1. Assumes nothing.
+use Prim.Native.Nat.{ℕ}
+use mathlib.Core.Path.{_≡_, refl}
+use mathlib.Core.Bool.{Bool, true, false}
+use mathlib.Core.List.{List, [], _∷_}
+use Rattle.format.specs.Format.{formatOf}
+use Rattle.format.specs.Pick.{pick}
+use Rattle.bytes.specs.Bytes.{hasBit, weightOf, byteOf}
+use Rattle.outputs.specs.Outputs.{drivenBy, drivenThird, opLevels}
+use Rattle.arrivals.specs.Arrivals.{oldestMarks}
+use Rattle.receiver.specs.Receiver.{effectOf, enablingOf, fedOf}
+use Rattle.receiver.specs.Status.{shownMarks}
+use Rattle.transmitter.specs.Transmitter.{afterInput}
+use Rattle.side.specs.Side.{freshSide, modeNotModelled, modeWritten, withModes}
+use Rattle.commands.specs.Commands.{transmitterEffect, receiverEffect, transmitterEnabling, receiverEnabling, sideCommanded, commandFeed}
+use Rattle.shown.specs.Shown.{receivedOf, shownOf}
+use Rattle.front.specs.Front.{frontAt, withSides, withPorts}
+use Rattle.writes.specs.Writes.{sideWritten, sharedWritten, registerWritten}
+use Rattle.events.specs.declared.events.Event.{Event}
+use Rattle.events.specs.declared.events.Event.the-variants.{ChipReset, Read, Write, Acknowledge}
+use Rattle.events.specs.Events.{frontStepped}
+use Rattle.events.specs.Refusals.{registerAbove15, forbiddenRead, forbiddenCommand, writeNotModelled, settingNotModelled}
+use Rattle.answers.specs.declared.answers.Lines.{Lines}
+use Rattle.answers.specs.Answers.{assertedOf, timerLevel, linesOf, noLines, eventData}
+use Rattle.duart.specs.declared.device.Device.{Device}
+use Rattle.duart.specs.declared.duart.Answer.{Answer}
+use Rattle.duart.specs.Device.{freshDevice}
+use Rattle.duart.specs.Duart.{takenOf, numberOf, refusalLines, stepOf}
+use Rattle.duart.specs.Refusals.{acknowledgedUnasserted, firstOf}
+use Rattle.chip.specs.Sound.{after}
+
+-- ---- the devices ----
+
+-- the fresh device after some events
+abbrev then : List Event → Device
+then es = after stepOf freshDevice es
+
+-- IMR bit 0, and transmitter A enabled: ISR bit 0
+abbrev asking : Device
+asking = then (Write 5 1 ∷ Write 2 4 ∷ [])
+
+-- a fifth change flag
+abbrev broken : Device
+broken =
+    record {
+      front = withPorts (freshDevice .front) (record { levels = 255; changes = 16 }) (freshDevice .front .outputs);
+      a = freshDevice .a;
+      b = freshDevice .b;
+    }
+
+-- the fresh device with MR1 of channel A written
+abbrev withMode : ℕ → Device
+withMode mr1 =
+    record {
+      front = withSides (freshDevice .front) (withModes freshSide mr1 0 true) freshSide (freshDevice .front .timer);
+      a = freshDevice .a;
+      b = freshDevice .b;
+    }
+
+-- ---- the answers ----
+
+-- both TxD and all OP pins high, and IRQ asserted or not
+abbrev idleLines : Bool → Lines
+idleLines irq = record { irq = irq; txda = true; txdb = true; op = 255 }
+
+-- "Refused: data 0, the state as given"
+abbrev refused : ℕ → Device → Answer
+refused n d = record { number = n; byte = 0; lines = idleLines false; state = d }
+
+record Examples : Type 0 where
+  -- MR1 19: 8 data bits, no parity
+  accepted : stepOf freshDevice (Write 0 19) ≡ record { number = 0; byte = 0; lines = idleLines false; state = withMode 19 }
+  -- "for 1, all lines 0", even where the event would mend it or another row applies
+  unsound-reset : stepOf broken ChipReset ≡ record { number = 1; byte = 0; lines = noLines; state = broken }
+  unsound-read : stepOf broken (Read 16) ≡ record { number = 1; byte = 0; lines = noLines; state = broken }
+  read-16 : stepOf freshDevice (Read 16) ≡ refused 2 freshDevice
+  write-16 : stepOf freshDevice (Write 16 0) ≡ refused 2 freshDevice
+  read-2 : stepOf freshDevice (Read 2) ≡ refused 3 freshDevice
+  read-10 : stepOf freshDevice (Read 10) ≡ refused 3 freshDevice
+  -- bits 3-2 and bits 1-0
+  command-12 : stepOf freshDevice (Write 2 12) ≡ refused 4 freshDevice
+  command-3 : stepOf freshDevice (Write 10 3) ≡ refused 4 freshDevice
+  mr1-128 : stepOf freshDevice (Write 0 128) ≡ refused 5 freshDevice
+  mr1-24 : stepOf freshDevice (Write 8 24) ≡ refused 5 freshDevice
+  -- where the pointer has moved to MR2
+  mr2-32 : stepOf (withMode 19) (Write 0 32) ≡ refused 5 (withMode 19)
+  opcr-1 : stepOf freshDevice (Write 13 1) ≡ refused 5 freshDevice
+  opcr-8 : stepOf freshDevice (Write 13 8) ≡ refused 5 freshDevice
+  unasserted : stepOf freshDevice Acknowledge ≡ refused 6 freshDevice
+  -- "acknowledge then reads IVR and changes nothing"
+  asserted : stepOf asking Acknowledge ≡ record { number = 0; byte = 15; lines = idleLines true; state = asking }
+
+examples : Examples
+unfolding stepOf numberOf firstOf acknowledgedUnasserted takenOf refusalLines freshDevice registerAbove15 forbiddenRead forbiddenCommand writeNotModelled settingNotModelled frontStepped registerWritten sideWritten sharedWritten modeWritten modeNotModelled freshSide frontAt sideCommanded commandFeed transmitterEffect receiverEffect transmitterEnabling receiverEnabling afterInput fedOf effectOf enablingOf shownMarks oldestMarks shownOf receivedOf assertedOf timerLevel linesOf eventData opLevels drivenBy drivenThird hasBit weightOf byteOf formatOf after pick
+examples =
+    record {
+      accepted = refl;
+      unsound-reset = refl;
+      unsound-read = refl;
+      read-16 = refl;
+      write-16 = refl;
+      read-2 = refl;
+      read-10 = refl;
+      command-12 = refl;
+      command-3 = refl;
+      mr1-128 = refl;
+      mr1-24 = refl;
+      mr2-32 = refl;
+      opcr-1 = refl;
+      opcr-8 = refl;
+      unasserted = refl;
+      asserted = refl;
+    }
