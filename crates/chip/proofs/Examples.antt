@@ -33,24 +33,27 @@ use Rattle.chip.specs.Sound.{after}
 -- ---- the devices ----
 
 -- the fresh device after some events
-abbrev then : List Event → Device
+abbrev pub then : List Event → Device
 then es = after stepOf freshDevice es
 
 -- IMR bit 0, and transmitter A enabled: ISR bit 0
-abbrev asking : Device
+abbrev pub asking : Device
 asking = then (Write 5 1 ∷ Write 2 4 ∷ [])
 
--- a fifth change flag
-abbrev broken : Device
-broken =
+-- the fresh device with other change flags; there are four, so that a fifth is unsound
+abbrev pub flagged : ℕ → Device
+flagged changes =
     record {
-      front = withPorts (freshDevice .front) (record { levels = 255; changes = 16 }) (freshDevice .front .outputs);
+      front = withPorts (freshDevice .front) (record { levels = 255; changes = changes }) (freshDevice .front .outputs);
       a = freshDevice .a;
       b = freshDevice .b;
     }
 
+abbrev pub broken : Device
+broken = flagged 16
+
 -- the fresh device with MR1 of channel A written
-abbrev withMode : ℕ → Device
+abbrev pub withMode : ℕ → Device
 withMode mr1 =
     record {
       front = withSides (freshDevice .front) (withModes freshSide mr1 0 true) freshSide (freshDevice .front .timer);
@@ -61,37 +64,37 @@ withMode mr1 =
 -- ---- the answers ----
 
 -- both TxD and all OP pins high, and IRQ asserted or not
-abbrev idleLines : Bool → Lines
+abbrev pub idleLines : Bool → Lines
 idleLines irq = record { irq = irq; txda = true; txdb = true; op = 255 }
 
 -- "Refused: data 0, the state as given"
-abbrev refused : ℕ → Device → Answer
+abbrev pub refused : ℕ → Device → Answer
 refused n d = record { number = n; byte = 0; lines = idleLines false; state = d }
 
-record Examples : Type 0 where
+pub record Examples : Type 0 where
   -- MR1 19: 8 data bits, no parity
-  accepted : stepOf freshDevice (Write 0 19) ≡ record { number = 0; byte = 0; lines = idleLines false; state = withMode 19 }
+  pub accepted : stepOf freshDevice (Write 0 19) ≡ record { number = 0; byte = 0; lines = idleLines false; state = withMode 19 }
   -- "for 1, all lines 0", even where the event would mend it or another row applies
-  unsound-reset : stepOf broken ChipReset ≡ record { number = 1; byte = 0; lines = noLines; state = broken }
-  unsound-read : stepOf broken (Read 16) ≡ record { number = 1; byte = 0; lines = noLines; state = broken }
-  read-16 : stepOf freshDevice (Read 16) ≡ refused 2 freshDevice
-  write-16 : stepOf freshDevice (Write 16 0) ≡ refused 2 freshDevice
-  read-2 : stepOf freshDevice (Read 2) ≡ refused 3 freshDevice
-  read-10 : stepOf freshDevice (Read 10) ≡ refused 3 freshDevice
+  pub unsound-reset : stepOf broken ChipReset ≡ record { number = 1; byte = 0; lines = noLines; state = broken }
+  pub unsound-read : stepOf broken (Read 16) ≡ record { number = 1; byte = 0; lines = noLines; state = broken }
+  pub read-16 : stepOf freshDevice (Read 16) ≡ refused 2 freshDevice
+  pub write-16 : stepOf freshDevice (Write 16 0) ≡ refused 2 freshDevice
+  pub read-2 : stepOf freshDevice (Read 2) ≡ refused 3 freshDevice
+  pub read-10 : stepOf freshDevice (Read 10) ≡ refused 3 freshDevice
   -- bits 3-2 and bits 1-0
-  command-12 : stepOf freshDevice (Write 2 12) ≡ refused 4 freshDevice
-  command-3 : stepOf freshDevice (Write 10 3) ≡ refused 4 freshDevice
-  mr1-128 : stepOf freshDevice (Write 0 128) ≡ refused 5 freshDevice
-  mr1-24 : stepOf freshDevice (Write 8 24) ≡ refused 5 freshDevice
+  pub command-12 : stepOf freshDevice (Write 2 12) ≡ refused 4 freshDevice
+  pub command-3 : stepOf freshDevice (Write 10 3) ≡ refused 4 freshDevice
+  pub mr1-128 : stepOf freshDevice (Write 0 128) ≡ refused 5 freshDevice
+  pub mr1-24 : stepOf freshDevice (Write 8 24) ≡ refused 5 freshDevice
   -- where the pointer has moved to MR2
-  mr2-32 : stepOf (withMode 19) (Write 0 32) ≡ refused 5 (withMode 19)
-  opcr-1 : stepOf freshDevice (Write 13 1) ≡ refused 5 freshDevice
-  opcr-8 : stepOf freshDevice (Write 13 8) ≡ refused 5 freshDevice
-  unasserted : stepOf freshDevice Acknowledge ≡ refused 6 freshDevice
+  pub mr2-32 : stepOf (withMode 19) (Write 0 32) ≡ refused 5 (withMode 19)
+  pub opcr-1 : stepOf freshDevice (Write 13 1) ≡ refused 5 freshDevice
+  pub opcr-8 : stepOf freshDevice (Write 13 8) ≡ refused 5 freshDevice
+  pub unasserted : stepOf freshDevice Acknowledge ≡ refused 6 freshDevice
   -- "acknowledge then reads IVR and changes nothing"
-  asserted : stepOf asking Acknowledge ≡ record { number = 0; byte = 15; lines = idleLines true; state = asking }
+  pub asserted : stepOf asking Acknowledge ≡ record { number = 0; byte = 15; lines = idleLines true; state = asking }
 
-examples : Examples
+pub examples : Examples
 unfolding stepOf numberOf firstOf acknowledgedUnasserted takenOf refusalLines freshDevice registerAbove15 forbiddenRead forbiddenCommand writeNotModelled settingNotModelled frontStepped registerWritten sideWritten sharedWritten modeWritten modeNotModelled freshSide frontAt sideCommanded commandFeed transmitterEffect receiverEffect transmitterEnabling receiverEnabling afterInput fedOf effectOf enablingOf shownMarks oldestMarks shownOf receivedOf assertedOf timerLevel linesOf eventData opLevels drivenBy drivenThird hasBit weightOf byteOf formatOf after pick
 examples =
     record {

@@ -5,3 +5,4 @@ pub mod Quiet
 pub mod Alone
 pub mod Lists
 pub mod Examples
+pub mod Wrong
