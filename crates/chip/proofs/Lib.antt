@@ -6,3 +6,4 @@ pub mod Alone
 pub mod Lists
 pub mod Examples
 pub mod Wrong
+pub mod WrongLists
