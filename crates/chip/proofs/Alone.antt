@@ -1,6 +1,5 @@
--- An accepted event is one that no row of the front refuses, and the step is then defined by what the front hands on. A refused one leaves the
--- state: rows 2 to 5 are the front's own; row 6 refuses an acknowledge only, which hands on nothing either way; row 1 does not come up on a
--- sound device; nor does row 7, of which the proof is handed in. Assumes nothing.
+-- An accepted event is one that the front does not refuse, and the step is defined by what the front hands on. A refused one leaves the state: rows
+-- 2 to 5 are the front's, row 6 refuses an acknowledge, which hands on nothing, and rows 1 and 7 do not come up. Assumes nothing.
 use Prim.Native.Nat.{ℕ, zero, suc}
 use mathlib.Core.Path.{_≡_, refl, sym, _∙_, ap}
 use mathlib.Core.Bool.{true, true≢false, or-true}

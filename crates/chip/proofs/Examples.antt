@@ -8,9 +8,7 @@ use Rattle.format.specs.Format.{formatOf}
 use Rattle.format.specs.Pick.{pick}
 use Rattle.bytes.specs.Bytes.{hasBit, weightOf, byteOf}
 use Rattle.outputs.specs.Outputs.{drivenBy, drivenThird, opLevels}
-use Rattle.arrivals.specs.Arrivals.{oldestMarks}
 use Rattle.receiver.specs.Receiver.{effectOf, enablingOf, fedOf}
-use Rattle.receiver.specs.Status.{shownMarks}
 use Rattle.transmitter.specs.Transmitter.{afterInput}
 use Rattle.side.specs.Side.{freshSide, modeNotModelled, modeWritten, withModes}
 use Rattle.commands.specs.Commands.{transmitterEffect, receiverEffect, transmitterEnabling, receiverEnabling, sideCommanded, commandFeed}
@@ -22,7 +20,7 @@ use Rattle.events.specs.declared.events.Event.the-variants.{ChipReset, Read, Wr
 use Rattle.events.specs.Events.{frontStepped}
 use Rattle.events.specs.Refusals.{registerAbove15, forbiddenRead, forbiddenCommand, writeNotModelled, settingNotModelled}
 use Rattle.answers.specs.declared.answers.Lines.{Lines}
-use Rattle.answers.specs.Answers.{assertedOf, timerLevel, linesOf, noLines, eventData}
+use Rattle.answers.specs.Answers.{assertedOf, linesOf, noLines, eventData}
 use Rattle.duart.specs.declared.device.Device.{Device}
 use Rattle.duart.specs.declared.duart.Answer.{Answer}
 use Rattle.duart.specs.Device.{freshDevice}
@@ -95,7 +93,7 @@ pub record Examples : Type 0 where
   pub asserted : stepOf asking Acknowledge ≡ record { number = 0; byte = 15; lines = idleLines true; state = asking }
 
 pub examples : Examples
-unfolding stepOf numberOf firstOf acknowledgedUnasserted takenOf refusalLines freshDevice registerAbove15 forbiddenRead forbiddenCommand writeNotModelled settingNotModelled frontStepped registerWritten sideWritten sharedWritten modeWritten modeNotModelled freshSide frontAt sideCommanded commandFeed transmitterEffect receiverEffect transmitterEnabling receiverEnabling afterInput fedOf effectOf enablingOf shownMarks oldestMarks shownOf receivedOf assertedOf timerLevel linesOf eventData opLevels drivenBy drivenThird hasBit weightOf byteOf formatOf after pick
+unfolding stepOf numberOf firstOf acknowledgedUnasserted takenOf refusalLines freshDevice registerAbove15 forbiddenRead forbiddenCommand writeNotModelled settingNotModelled frontStepped registerWritten sideWritten sharedWritten modeWritten modeNotModelled freshSide frontAt sideCommanded commandFeed transmitterEffect receiverEffect transmitterEnabling receiverEnabling afterInput fedOf effectOf enablingOf shownOf receivedOf assertedOf linesOf eventData opLevels drivenBy drivenThird hasBit weightOf byteOf formatOf after pick
 examples =
     record {
       accepted = refl;

@@ -13,7 +13,7 @@ use Rattle.duart.specs.declared.device.Device.{Device}
 use Rattle.duart.specs.declared.duart.Answer.{Answer}
 use Rattle.duart.specs.Duart.{takenOf, numberOf, refusalLines, refusedOf, acceptedOf, stepOf}
 use Rattle.duart.specs.Refusals.{firstOf}
-use Rattle.chip.specs.Table.{row, First, Table}
+use Rattle.chip.specs.Table.{Step, row, First, Table}
 
 -- ---- the first of some rows ----
 
@@ -170,3 +170,25 @@ table =
       unaltered = λ d e h. ap (λ (x : Answer). x .state) (step-refused d e h);
       lines = λ d e h. ap (λ (x : Answer). x .lines) (step-refused d e h);
     }
+
+-- ---- the table leaves no freedom ----
+
+table-refused : (step : Step) → Table step → (d : Device) (e : Event) → (step d e .number ≡ 0 → ⊥) → step d e ≡ refusedOf d (step d e .number)
+unfolding refusalLines
+table-refused step h d e n = go (step d e) (h .silent d e n) (h .lines d e n) (h .unaltered d e n)
+  where
+    go : (x : Answer) → x .byte ≡ 0 → x .lines ≡ refusalLines d (x .number) → x .state ≡ d → x ≡ refusedOf d (x .number)
+    go x b l s =
+        let z : record { number = x .number; byte = x .byte; lines = x .lines; state = x .state } ≡ refusedOf d (x .number) = rw (b, l, s) in
+        z
+
+-- "a second answer fitting the same words is proved equal": a step that meets the table is this one
+pub table-one : (step : Step) → Table step → (d : Device) (e : Event) → step d e ≡ stepOf d e
+table-one step h d e = go (step d e .number) refl
+  where
+    go : (n : ℕ) → step d e .number ≡ n → step d e ≡ stepOf d e
+    go zero z = h .taken d e z ∙ sym (step-taken d e (step-accepted d e (h .free d e z)))
+    go (suc n) z =
+        let refused : step d e .number ≡ 0 → ⊥ = omega arith in
+        let same : stepOf d e .number ≡ step d e .number = step-given (step d e .number) d e (h .only d e refused) in
+        table-refused step h d e refused ∙ rw (← same) (sym (step-refused d e (λ y. refused (sym same ∙ y))))

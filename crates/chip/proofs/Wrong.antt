@@ -165,7 +165,7 @@ unfolding freshDevice frontAt freshSide
 no-idles h =
     let z : stepOf freshDevice (Write 0 19) .number ≡ 0 = rw (examples .accepted) in
     let y : idles freshDevice (Write 0 19) ≡ stepOf freshDevice (Write 0 19) =
-        h .taken freshDevice (Write 0 19) z ∙ sym (table .taken freshDevice (Write 0 19) z)
+    h .taken freshDevice (Write 0 19) z ∙ sym (table .taken freshDevice (Write 0 19) z)
     in
     let x : freshDevice ≡ withMode 19 = ap (λ (x : Answer). x .state) y ∙ rw (examples .accepted) in
     true≢false (sym (ap (λ (d : Device). d .front .a .moved) x))

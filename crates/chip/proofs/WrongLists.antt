@@ -15,16 +15,13 @@ use Rattle.queue.specs.Queue.{waits, heldOf, waitsOf}
 use Rattle.arrivals.specs.Arrivals.{withSampler, withQueue}
 use Rattle.transmitter.specs.Transmitter.{afterInput}
 use Rattle.clocks.specs.Channel as Channel
-use Rattle.clocks.specs.Divider.{dividedOf}
-use Rattle.clocks.specs.Rates.{periodOf}
 use Rattle.bytes.specs.Bytes.{hasBit}
-use Rattle.inputs.specs.Inputs.{movedOf, pinsOfA, pinsOfB}
+use Rattle.inputs.specs.Inputs.{movedOf, pinsOfA}
 use Rattle.side.specs.declared.side.Side.{Side}
 use Rattle.side.specs.Clocking.{transmitterPulsed, lineOf, sideClocked}
 use Rattle.side.specs.Side.{freshSide, withClocks, withEnabled}
 use Rattle.commands.specs.Commands.{transmitterEffect, receiverEffect, transmitterEnabling, receiverEnabling, sideCommanded, commandFeed}
 use Rattle.counting.specs.Counting.{pulsedBy}
-use Rattle.timer.specs.Timer.{edgedBy}
 use Rattle.front.specs.Clocking.{countedOf, clockedWith, clockedOf, levelsMoved}
 use Rattle.front.specs.Front.{frontAt, withSides}
 use Rattle.writes.specs.Writes.{sideWritten, registerWritten}
@@ -84,7 +81,7 @@ startsNext =
     record { front = withSides (frontAt 0) s freshSide (frontAt 0 .timer); a = withSampler (queueOf 4) (hunting true); b = queueOf 0 }
 
 pub no-startKeeps : SameAnswers startKeeps listStepOf → ⊥
-unfolding listStepOf listNumber listNext listUnasserted listFedOf listAnswered listStarted listArrived sampleOf hunted lowAt gapOf frontStepped levelsMoved clockedOf countedOf clockedWith sideClocked transmitterPulsed lineOf Channel.clockedOf Channel.sideOf Channel.tickedOf Channel.transmitter1x dividedOf periodOf edgedBy pulsedBy pinsOfA pinsOfB movedOf hasBit afterInput registerAbove15 forbiddenRead forbiddenCommand settingNotModelled freshDevice frontAt freshSide formatOf heldOf pick
+unfolding listStepOf listNumber listNext listUnasserted listFedOf listAnswered listStarted listArrived sampleOf hunted lowAt gapOf frontStepped levelsMoved clockedOf countedOf clockedWith sideClocked transmitterPulsed lineOf Channel.clockedOf Channel.sideOf Channel.tickedOf Channel.transmitter1x pulsedBy pinsOfA movedOf hasBit registerAbove15 forbiddenRead forbiddenCommand settingNotModelled frontAt freshSide formatOf heldOf pick
 no-startKeeps h =
     let z : _≡_ {A = ℕ} 4 3 = ap heldA (h .states startsNext (Pins 16) refl) in
     omega arith
