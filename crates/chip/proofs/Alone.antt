@@ -19,6 +19,7 @@ use Rattle.duart.specs.Refusals.{acknowledgedUnasserted}
 use Rattle.chip.specs.Alone.{handedAfter, Alone}
 use Rattle.chip.specs.Sound.{NeverSeven}
 use Rattle.chip.specs.Table.{row, First}
+use Rattle.chip.proofs.Sound.{never-seven}
 use Rattle.chip.proofs.Table.{no-more-rows, table}
 
 -- a device whose front is the one handed back, and whose receivers have taken what they were handed
@@ -72,3 +73,6 @@ alone-from never =
       a = λ d e s. ap (λ (x : Device). x .a) (alone-state never d e s);
       b = λ d e s. ap (λ (x : Device). x .b) (alone-state never d e s);
     }
+
+pub alone : Alone stepOf
+alone = alone-from never-seven

@@ -7,8 +7,7 @@ use mathlib.Core.List.{List, [], _∷_}
 use Rattle.format.specs.Format.{formatOf}
 use Rattle.format.specs.Pick.{pick}
 use Rattle.bytes.specs.Bytes.{hasBit, weightOf, byteOf}
-use Rattle.outputs.specs.Outputs.{drivenBy, drivenThird, opLevels}
-use Rattle.arrivals.specs.Arrivals.{freshReceiver}
+use Rattle.outputs.specs.Outputs.{drivenBy, drivenOp3, opLevels}
 use Rattle.receiver.specs.Receiver.{effectOf, enablingOf, fedOf}
 use Rattle.transmitter.specs.Transmitter.{afterInput}
 use Rattle.side.specs.Side.{freshSide, modeNotModelled, modeWritten, withModes}
@@ -24,10 +23,9 @@ use Rattle.answers.specs.declared.answers.Lines.{Lines}
 use Rattle.answers.specs.Answers.{assertedOf, linesOf, noLines, eventData}
 use Rattle.duart.specs.declared.device.Device.{Device}
 use Rattle.duart.specs.declared.duart.Answer.{Answer}
-use Rattle.duart.specs.Device.{freshDevice, isSoundOf}
+use Rattle.duart.specs.Device.{freshDevice}
 use Rattle.duart.specs.Duart.{takenOf, numberOf, refusalLines, stepOf}
 use Rattle.duart.specs.Refusals.{acknowledgedUnasserted, firstOf}
-use Rattle.duart.proofs.Laws.Table.{accepts}
 use Rattle.chip.specs.Sound.{after}
 
 -- ---- the devices ----
@@ -95,7 +93,7 @@ pub record Examples : Type 0 where
   pub asserted : stepOf asking Acknowledge ≡ record { number = 0; byte = 15; lines = idleLines true; state = asking }
 
 pub examples : Examples
-unfolding stepOf numberOf firstOf acknowledgedUnasserted takenOf refusalLines freshDevice registerAbove15 forbiddenRead forbiddenCommand writeNotModelled settingNotModelled frontStepped registerWritten sideWritten sharedWritten modeWritten modeNotModelled freshSide frontAt sideCommanded commandFeed transmitterEffect receiverEffect transmitterEnabling receiverEnabling afterInput fedOf effectOf enablingOf shownOf receivedOf assertedOf linesOf eventData opLevels drivenBy drivenThird hasBit weightOf byteOf formatOf after pick
+unfolding stepOf numberOf firstOf acknowledgedUnasserted takenOf refusalLines freshDevice registerAbove15 forbiddenRead forbiddenCommand writeNotModelled settingNotModelled frontStepped registerWritten sideWritten sharedWritten modeWritten modeNotModelled freshSide frontAt sideCommanded commandFeed transmitterEffect receiverEffect transmitterEnabling receiverEnabling afterInput fedOf effectOf enablingOf shownOf receivedOf assertedOf linesOf eventData opLevels drivenBy drivenOp3 hasBit weightOf byteOf formatOf after pick
 examples =
     record {
       accepted = refl;
@@ -115,18 +113,3 @@ examples =
       unasserted = refl;
       asserted = refl;
     }
-
--- ---- a chip reset ----
-
--- "Chip reset: .. Pin levels stay.": the answer to one on any sound device, which is the fresh one where the pins are high
-abbrev pub resetAt : ℕ → Device
-resetAt levels = record { front = frontAt levels; a = freshReceiver; b = freshReceiver }
-
-pub reset : (d : Device) → isSoundOf d ≡ true
-    → stepOf d ChipReset ≡ record { number = 0; byte = 0; lines = idleLines false; state = resetAt (d .front .inputs .levels) }
-unfolding firstOf acknowledgedUnasserted takenOf registerAbove15 forbiddenRead forbiddenCommand settingNotModelled frontStepped freshSide frontAt fedOf shownOf receivedOf assertedOf linesOf eventData opLevels drivenBy drivenThird hasBit weightOf byteOf formatOf pick
-reset d s = accepts d ChipReset (rw s) refl
-
-pub reset-fresh : freshDevice ≡ resetAt 255
-unfolding freshDevice
-reset-fresh = refl

@@ -1,6 +1,8 @@
 -- The theorems of the whole chip, and the laws that they go by.
 pub mod Laws
 pub mod Table
+pub mod Sound
+pub mod Reset
 pub mod Quiet
 pub mod Alone
 pub mod Lists

@@ -16,6 +16,11 @@ use Rattle.receiver.specs.Receiver.{fedOf}
 use Rattle.duart.specs.declared.device.Device.{Device}
 use Rattle.duart.specs.declared.duart.Answer.{Answer}
 use Rattle.duart.specs.Duart.{takenOf, stepOf}
+use Rattle.events.specs.Refusals.{registerAbove15, forbiddenRead, forbiddenCommand, settingNotModelled}
+use Rattle.answers.specs.Answers.{eventData}
+use Rattle.duart.specs.Device.{isSoundOf}
+use Rattle.duart.specs.Refusals.{deviceAsserted, acknowledgedUnasserted, firstOf}
+use Rattle.duart.proofs.Laws.Table.{accepts}
 use Rattle.chip.specs.Quiet.{onlyLooks, Quiet}
 use Rattle.chip.proofs.Table.{table}
 
@@ -46,6 +51,16 @@ only-looked f n h =
     is : (k : ℕ) → registerRead f k ≡ handedNothing f → eqb n k ≡ true → registerRead f n ≡ handedNothing f
     is k p e = let z : n ≡ k = eqb-true n k e in rw z p
 
+-- no row refuses an acknowledge of a sound device that asserts IRQ
+acknowledged : (d : Device) → isSoundOf d ≡ true → deviceAsserted d ≡ true → stepOf d Acknowledge .byte ≡ d .front .ivr
+unfolding firstOf acknowledgedUnasserted registerAbove15 forbiddenRead forbiddenCommand settingNotModelled takenOf frontStepped fedOf eventData pick
+acknowledged d s t = ap (λ (x : Answer). x .byte) (accepts d Acknowledge (rw (s, t)) s)
+
 pub quiet : Quiet stepOf
 unfolding frontStepped
-quiet = record { read = λ d n h. quiet-step d (Read n) (only-looked (d .front) n h); acknowledge = λ d. quiet-step d Acknowledge refl }
+quiet =
+    record {
+      read = λ d n h. quiet-step d (Read n) (only-looked (d .front) n h);
+      acknowledge = λ d. quiet-step d Acknowledge refl;
+      vector = acknowledged;
+    }

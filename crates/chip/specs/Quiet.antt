@@ -1,11 +1,13 @@
--- "A status read that takes a character" is a trap: it changes nothing at all; and "acknowledge then reads IVR and changes nothing". On every
--- device, sound or not. Assumes nothing.
+-- "A status read that takes a character" is a trap: it changes nothing at all; and "acknowledge then reads IVR and changes nothing". The
+-- first on every device, sound or not. Assumes nothing.
 use Prim.Native.Nat.{ℕ}
 use mathlib.Core.Path.{_≡_}
 use mathlib.Core.Bool.{Bool, true, _||_}
 use lib.Dec.{eqb}
 use Rattle.events.specs.declared.events.Event.the-variants.{Read, Acknowledge}
 use Rattle.duart.specs.declared.device.Device.{Device}
+use Rattle.duart.specs.Device.{isSoundOf}
+use Rattle.duart.specs.Refusals.{deviceAsserted}
 use Rattle.chip.specs.Table.{Step}
 
 -- the registers that a read only looks at: SR of A and of B, ISR, the count, IVR and the input port
@@ -15,3 +17,4 @@ onlyLooks n = (eqb n 1 || eqb n 9) || ((eqb n 5 || (eqb n 6 || eqb n 7)) || (eqb
 pub record Quiet (step : Step) : Type 0 where
   pub read : (d : Device) (n : ℕ) → onlyLooks n ≡ true → step d (Read n) .state ≡ d
   pub acknowledge : (d : Device) → step d Acknowledge .state ≡ d
+  pub vector : (d : Device) → isSoundOf d ≡ true → deviceAsserted d ≡ true → step d Acknowledge .byte ≡ d .front .ivr
