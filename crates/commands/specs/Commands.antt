@@ -38,7 +38,7 @@ receiverEffect bits =
     (pick (eqb bits 4) Receivers.ClearErrors
     (pick (eqb bits 5) Receivers.ClearBreakChange Receivers.NoEffect))
 
--- "2 reset receiver (disabled; ..)": the enable after bits 6-4
+-- "2 reset receiver (disabled; .. overrun mark stays)": the enable after bits 6-4
 abbrev pub enabledThen : Bool → ℕ → Bool
 enabledThen enabled effect = enabled && not (eqb effect 2)
 

@@ -84,7 +84,7 @@ fn receiver_enabling(enabled: bool, bits: u8) -> Enabling
     Enabling::Stays
 }
 
-// The receiver's enable after bits 6-4: "2 reset receiver (disabled; ..".
+// The receiver's enable after bits 6-4: "2 reset receiver (disabled; .. overrun mark stays)".
 fn enabled_then(enabled: bool, effect: u8) -> bool
     ensures { λ r. ⌜ r ≡ enabledThen enabled effect ⌝ }
 {
