@@ -7,15 +7,15 @@ use native.Mathlib.Omega.{arith}
 use Rattle.format.specs.Pick.{pick}
 use Rattle.events.specs.declared.events.Event.{Event}
 use Rattle.events.specs.declared.events.Event.the-variants.{ChipReset, Read, Write, Acknowledge, Pins, Tick}
-use Rattle.events.specs.Events.{frontStepped}
+use Rattle.front_events.specs.FrontEvents.{frontStepped}
 use Rattle.front.specs.declared.front.Handed.{Handed}
 use Rattle.front.specs.Front.{handedNothing}
 use Rattle.receiver.specs.Receiver.{fedOf}
-use Rattle.duart.specs.declared.device.Device.{Device}
+use Rattle.device.specs.declared.device.Device.{Device}
 use Rattle.duart.specs.declared.duart.Answer.{Answer}
-use Rattle.duart.specs.Device.{isSoundOf}
+use Rattle.device.specs.Device.{isSoundOf}
 use Rattle.duart.specs.Duart.{takenOf, stepOf}
-use Rattle.duart.specs.Refusals.{acknowledgedUnasserted}
+use Rattle.refusals.specs.Refusals.{acknowledgedUnasserted}
 use Rattle.chip.specs.Alone.{handedAfter, Alone}
 use Rattle.chip.specs.Sound.{NeverSeven}
 use Rattle.chip.specs.Table.{row, First}

@@ -17,15 +17,16 @@ use Rattle.front.specs.Front.{frontAt, withSides, withPorts}
 use Rattle.writes.specs.Writes.{sideWritten, sharedWritten, registerWritten}
 use Rattle.events.specs.declared.events.Event.{Event}
 use Rattle.events.specs.declared.events.Event.the-variants.{ChipReset, Read, Write, Acknowledge}
-use Rattle.events.specs.Events.{frontStepped}
-use Rattle.events.specs.Refusals.{registerAbove15, forbiddenRead, forbiddenCommand, writeNotModelled, settingNotModelled}
+use Rattle.front_events.specs.FrontEvents.{frontStepped}
+use Rattle.events.specs.Refusals.{registerAbove15, forbiddenRead, forbiddenCommand}
+use Rattle.front_events.specs.NotModelled.{writeNotModelled, settingNotModelled}
 use Rattle.answers.specs.declared.answers.Lines.{Lines}
 use Rattle.answers.specs.Answers.{assertedOf, linesOf, noLines, eventData}
-use Rattle.duart.specs.declared.device.Device.{Device}
+use Rattle.device.specs.declared.device.Device.{Device}
 use Rattle.duart.specs.declared.duart.Answer.{Answer}
-use Rattle.duart.specs.Device.{freshDevice}
+use Rattle.device.specs.Device.{freshDevice}
 use Rattle.duart.specs.Duart.{takenOf, numberOf, refusalLines, stepOf}
-use Rattle.duart.specs.Refusals.{acknowledgedUnasserted, firstOf}
+use Rattle.refusals.specs.Refusals.{acknowledgedUnasserted, firstOf}
 use Rattle.chip.specs.Sound.{after}
 
 -- ---- the devices ----

@@ -18,12 +18,12 @@ use Rattle.front.specs.Sound.{frontInRange}
 use Rattle.shown.specs.Shown.{blockErrors}
 use Rattle.events.specs.declared.events.Event.{Event}
 use Rattle.events.specs.declared.events.Event.the-variants.{ChipReset, Read, Write, Acknowledge, Pins, Tick}
-use Rattle.events.specs.Events.{frontStepped}
-use Rattle.duart.specs.declared.device.Device.{Device}
+use Rattle.front_events.specs.FrontEvents.{frontStepped}
+use Rattle.device.specs.declared.device.Device.{Device}
 use Rattle.duart.specs.declared.duart.Answer.{Answer}
-use Rattle.duart.specs.Device.{isSoundOf, shownA, shownB, deviceLines}
+use Rattle.device.specs.Device.{isSoundOf, shownA, shownB, deviceLines}
 use Rattle.duart.specs.Duart.{takenOf, numberOf, refusalLines, refusedOf, acceptedOf, stepOf}
-use Rattle.duart.specs.Refusals.{acknowledgedUnasserted, firstOf}
+use Rattle.refusals.specs.Refusals.{acknowledgedUnasserted, firstOf}
 use Rattle.chip.specs.Lists.{listIsSound, listShownA, listShownB, listLines, listNext, listByte, listUnasserted, listNumber, listRefused, ListAnswer, listStepOf, listsOf, seenOf, allSeen, listAllSeen, SameAnswers}
 use Rattle.chip.proofs.Laws.Lists.{status-held, sound-held, fed-held}
 use Rattle.chip.specs.Table.{row}

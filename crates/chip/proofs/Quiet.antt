@@ -8,18 +8,19 @@ use borrow.Author.Tests.{eqb-true}
 use Rattle.format.specs.Pick.{pick}
 use Rattle.events.specs.declared.events.Event.{Event}
 use Rattle.events.specs.declared.events.Event.the-variants.{Read, Acknowledge}
-use Rattle.events.specs.Events.{frontStepped}
+use Rattle.front_events.specs.FrontEvents.{frontStepped}
 use Rattle.front.specs.declared.front.Front.{Front}
 use Rattle.front.specs.Front.{handedNothing}
 use Rattle.reads.specs.Reads.{sideRead, sharedRead, registerRead}
 use Rattle.receiver.specs.Receiver.{fedOf}
-use Rattle.duart.specs.declared.device.Device.{Device}
+use Rattle.device.specs.declared.device.Device.{Device}
 use Rattle.duart.specs.declared.duart.Answer.{Answer}
 use Rattle.duart.specs.Duart.{takenOf, stepOf}
-use Rattle.events.specs.Refusals.{registerAbove15, forbiddenRead, forbiddenCommand, settingNotModelled}
+use Rattle.events.specs.Refusals.{registerAbove15, forbiddenRead, forbiddenCommand}
+use Rattle.front_events.specs.NotModelled.{settingNotModelled}
 use Rattle.answers.specs.Answers.{eventData}
-use Rattle.duart.specs.Device.{isSoundOf}
-use Rattle.duart.specs.Refusals.{deviceAsserted, acknowledgedUnasserted, firstOf}
+use Rattle.device.specs.Device.{isSoundOf}
+use Rattle.refusals.specs.Refusals.{deviceAsserted, acknowledgedUnasserted, firstOf}
 use Rattle.duart.proofs.Laws.Table.{accepts}
 use Rattle.chip.specs.Quiet.{onlyLooks, Quiet}
 use Rattle.chip.proofs.Table.{table}

@@ -10,14 +10,15 @@ use Rattle.side.specs.Side.{freshSide}
 use Rattle.shown.specs.Shown.{receivedOf, shownOf}
 use Rattle.front.specs.Front.{frontAt}
 use Rattle.events.specs.declared.events.Event.the-variants.{ChipReset}
-use Rattle.events.specs.Events.{frontStepped}
-use Rattle.events.specs.Refusals.{registerAbove15, forbiddenRead, forbiddenCommand, settingNotModelled}
+use Rattle.front_events.specs.FrontEvents.{frontStepped}
+use Rattle.events.specs.Refusals.{registerAbove15, forbiddenRead, forbiddenCommand}
+use Rattle.front_events.specs.NotModelled.{settingNotModelled}
 use Rattle.answers.specs.Answers.{assertedOf, linesOf, eventData}
-use Rattle.duart.specs.declared.device.Device.{Device}
+use Rattle.device.specs.declared.device.Device.{Device}
 use Rattle.duart.specs.declared.duart.Answer.{Answer}
-use Rattle.duart.specs.Device.{freshDevice, isSoundOf}
+use Rattle.device.specs.Device.{freshDevice, isSoundOf}
 use Rattle.duart.specs.Duart.{takenOf, stepOf}
-use Rattle.duart.specs.Refusals.{acknowledgedUnasserted, firstOf}
+use Rattle.refusals.specs.Refusals.{acknowledgedUnasserted, firstOf}
 use Rattle.duart.proofs.Laws.Table.{accepts}
 use Rattle.chip.specs.Reset.{resetAt, Resets}
 use Rattle.chip.proofs.Examples.{idleLines}

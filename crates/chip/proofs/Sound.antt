@@ -18,15 +18,16 @@ use Rattle.receiver.proofs.Laws.Reached.{sound-fed}
 use Rattle.soundness.specs.Soundness.{receiverSound}
 use Rattle.front.specs.Sound.{frontInRange}
 use Rattle.events.specs.declared.events.Event.{Event}
-use Rattle.events.specs.Refusals.{registerAbove15, forbiddenRead, forbiddenCommand, settingNotModelled}
-use Rattle.duart.specs.declared.device.Device.{Device}
+use Rattle.events.specs.Refusals.{registerAbove15, forbiddenRead, forbiddenCommand}
+use Rattle.front_events.specs.NotModelled.{settingNotModelled}
+use Rattle.device.specs.declared.device.Device.{Device}
 use Rattle.duart.specs.declared.duart.Answer.{Answer}
-use Rattle.duart.specs.Device.{freshDevice, isSoundOf}
+use Rattle.device.specs.Device.{freshDevice, isSoundOf}
 use Rattle.duart.specs.Duart.{takenOf, stepOf}
-use Rattle.duart.specs.Refusals.{unsound, acknowledgedUnasserted, firstOf}
+use Rattle.refusals.specs.Refusals.{unsound, acknowledgedUnasserted, firstOf}
 use Rattle.duart.proofs.Laws.Table.{accepts, refuses-first}
 use Rattle.chip.specs.Sound.{KeepsSound, NeverSeven, StaysSound, after}
-use Rattle.events.proofs.Laws.Ranges.{stepped-within}
+use Rattle.front_events.proofs.Laws.Ranges.{stepped-within}
 use Rattle.front.proofs.Laws.Ranges.{front-told, front-shown, front-at-within}
 
 -- ---- the rows before the seventh ----

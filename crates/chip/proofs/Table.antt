@@ -9,10 +9,10 @@ use lib.Dec.{eqb, eqb·suc-zero}
 use borrow.Author.Tests.{ne-eqb}
 use Rattle.format.specs.Pick.{pick}
 use Rattle.events.specs.declared.events.Event.{Event}
-use Rattle.duart.specs.declared.device.Device.{Device}
+use Rattle.device.specs.declared.device.Device.{Device}
 use Rattle.duart.specs.declared.duart.Answer.{Answer}
 use Rattle.duart.specs.Duart.{takenOf, numberOf, refusalLines, refusedOf, acceptedOf, stepOf}
-use Rattle.duart.specs.Refusals.{firstOf}
+use Rattle.refusals.specs.Refusals.{firstOf}
 use Rattle.chip.specs.Table.{Step, row, First, Table}
 
 -- ---- the first of some rows ----

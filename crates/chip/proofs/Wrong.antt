@@ -20,16 +20,17 @@ use Rattle.front.specs.Front.{frontAt, withSides}
 use Rattle.reads.specs.Reads.{sideRead, sharedRead, registerRead}
 use Rattle.events.specs.declared.events.Event.{Event}
 use Rattle.events.specs.declared.events.Event.the-variants.{ChipReset, Read, Write, Acknowledge, Pins, Tick}
-use Rattle.events.specs.Events.{frontStepped}
-use Rattle.events.specs.Refusals.{registerAbove15, forbiddenRead, forbiddenCommand, settingNotModelled}
+use Rattle.front_events.specs.FrontEvents.{frontStepped}
+use Rattle.events.specs.Refusals.{registerAbove15, forbiddenRead, forbiddenCommand}
+use Rattle.front_events.specs.NotModelled.{settingNotModelled}
 use Rattle.answers.specs.declared.answers.Lines.{Lines}
 use Rattle.answers.specs.Answers.{linesOf, noLines, eventData}
-use Rattle.duart.specs.declared.device.Device.{Device}
+use Rattle.device.specs.declared.device.Device.{Device}
 use Rattle.duart.specs.declared.duart.Answer.{Answer}
 use Rattle.duart.specs.declared.duart.Taken.{Taken}
-use Rattle.duart.specs.Device.{freshDevice, deviceLines}
+use Rattle.device.specs.Device.{freshDevice, deviceLines}
 use Rattle.duart.specs.Duart.{takenOf, refusedOf, acceptedOf, stepOf}
-use Rattle.duart.specs.Refusals.{acknowledgedUnasserted, firstOf}
+use Rattle.refusals.specs.Refusals.{acknowledgedUnasserted, firstOf}
 use Rattle.chip.specs.Alone.{handedAfter, Alone}
 use Rattle.chip.specs.Quiet.{Quiet}
 use Rattle.chip.specs.Sound.{KeepsSound, NeverSeven, after, StaysSound}

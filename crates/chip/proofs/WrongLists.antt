@@ -18,19 +18,20 @@ use Rattle.clocks.specs.Channel as Channel
 use Rattle.bytes.specs.Bytes.{hasBit}
 use Rattle.inputs.specs.Inputs.{movedOf, pinsOfA}
 use Rattle.side.specs.declared.side.Side.{Side}
-use Rattle.side.specs.Clocking.{transmitterPulsed, lineOf, sideClocked}
+use Rattle.side_clocks.specs.Clocking.{transmitterPulsed, lineOf, sideClocked}
 use Rattle.side.specs.Side.{freshSide, withClocks, withEnabled}
 use Rattle.commands.specs.Commands.{transmitterEffect, receiverEffect, transmitterEnabling, receiverEnabling, sideCommanded, commandFeed}
 use Rattle.counting.specs.Counting.{pulsedBy}
-use Rattle.front.specs.Clocking.{countedOf, clockedWith, clockedOf, levelsMoved}
+use Rattle.front_clocks.specs.Clocking.{countedOf, clockedWith, clockedOf, levelsMoved}
 use Rattle.front.specs.Front.{frontAt, withSides}
 use Rattle.writes.specs.Writes.{sideWritten, registerWritten}
 use Rattle.events.specs.declared.events.Event.{Event}
 use Rattle.events.specs.declared.events.Event.the-variants.{Write, Pins}
-use Rattle.events.specs.Events.{frontStepped}
-use Rattle.events.specs.Refusals.{registerAbove15, forbiddenRead, forbiddenCommand, writeNotModelled, settingNotModelled}
-use Rattle.duart.specs.declared.device.Device.{Device}
-use Rattle.duart.specs.Device.{freshDevice}
+use Rattle.front_events.specs.FrontEvents.{frontStepped}
+use Rattle.events.specs.Refusals.{registerAbove15, forbiddenRead, forbiddenCommand}
+use Rattle.front_events.specs.NotModelled.{writeNotModelled, settingNotModelled}
+use Rattle.device.specs.declared.device.Device.{Device}
+use Rattle.device.specs.Device.{freshDevice}
 use Rattle.duart.specs.Duart.{stepOf}
 use Rattle.chip.specs.Lists.{ListReceiver, listStarted, listArrived, listAnswered, listEffect, listEnabling, listFedOf, ListDevice, ListAnswer, listNext, listUnasserted, listNumber, listStepOf, SameAnswers}
 use Rattle.chip.specs.Table.{Step}

@@ -4,14 +4,15 @@ use mathlib.Core.Path.{_≡_}
 use mathlib.Core.Bool.{Bool, true, _||_}
 use Rattle.format.specs.Pick.{pick}
 use Rattle.events.specs.declared.events.Event.{Event}
-use Rattle.events.specs.Events.{frontStepped}
-use Rattle.events.specs.Refusals.{registerAbove15, forbiddenRead, forbiddenCommand, settingNotModelled}
+use Rattle.front_events.specs.FrontEvents.{frontStepped}
+use Rattle.events.specs.Refusals.{registerAbove15, forbiddenRead, forbiddenCommand}
+use Rattle.front_events.specs.NotModelled.{settingNotModelled}
 use Rattle.front.specs.declared.front.Front.{Front}
 use Rattle.front.specs.declared.front.Handed.{Handed}
 use Rattle.front.specs.Front.{handedNothing}
 use Rattle.receiver.specs.Receiver.{fedOf}
-use Rattle.duart.specs.declared.device.Device.{Device}
-use Rattle.duart.specs.Device.{isSoundOf}
+use Rattle.device.specs.declared.device.Device.{Device}
+use Rattle.device.specs.Device.{isSoundOf}
 use Rattle.chip.specs.Table.{Step}
 
 -- Rows 2 to 5 hang on the event and the front. Row 6 looks at the receivers, but an acknowledge changes nothing either way.

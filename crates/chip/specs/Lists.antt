@@ -33,14 +33,15 @@ use Rattle.shown.specs.declared.shown.Shown.{Shown}
 use Rattle.shown.specs.Shown.{blockErrors, shownOf}
 use Rattle.events.specs.declared.events.Event.{Event}
 use Rattle.events.specs.declared.events.Event.the-variants.{ChipReset, Read, Write, Acknowledge, Pins, Tick}
-use Rattle.events.specs.Events.{frontStepped}
-use Rattle.events.specs.Refusals.{registerAbove15, forbiddenRead, forbiddenCommand, settingNotModelled}
+use Rattle.front_events.specs.FrontEvents.{frontStepped}
+use Rattle.events.specs.Refusals.{registerAbove15, forbiddenRead, forbiddenCommand}
+use Rattle.front_events.specs.NotModelled.{settingNotModelled}
 use Rattle.answers.specs.declared.answers.Lines.{Lines}
 use Rattle.answers.specs.Answers.{assertedOf, linesOf, noLines, eventData}
-use Rattle.duart.specs.declared.device.Device.{Device}
+use Rattle.device.specs.declared.device.Device.{Device}
 use Rattle.duart.specs.declared.duart.Answer.{Answer}
-use Rattle.duart.specs.Device.{isSoundOf}
-use Rattle.duart.specs.Refusals.{sixRows}
+use Rattle.device.specs.Device.{isSoundOf}
+use Rattle.refusals.specs.Refusals.{sixRows}
 use Rattle.chip.specs.Table.{Step}
 
 -- ---- a receiver that holds a list ----

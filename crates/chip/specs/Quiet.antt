@@ -5,9 +5,9 @@ use mathlib.Core.Path.{_≡_}
 use mathlib.Core.Bool.{Bool, true, _||_}
 use lib.Dec.{eqb}
 use Rattle.events.specs.declared.events.Event.the-variants.{Read, Acknowledge}
-use Rattle.duart.specs.declared.device.Device.{Device}
-use Rattle.duart.specs.Device.{isSoundOf}
-use Rattle.duart.specs.Refusals.{deviceAsserted}
+use Rattle.device.specs.declared.device.Device.{Device}
+use Rattle.device.specs.Device.{isSoundOf}
+use Rattle.refusals.specs.Refusals.{deviceAsserted}
 use Rattle.chip.specs.Table.{Step}
 
 -- the registers that a read only looks at: SR of A and of B, ISR, the count, IVR and the input port

@@ -6,8 +6,8 @@ use mathlib.Core.Bool.{true}
 use Rattle.arrivals.specs.Arrivals.{freshReceiver}
 use Rattle.events.specs.declared.events.Event.the-variants.{ChipReset}
 use Rattle.front.specs.Front.{frontAt}
-use Rattle.duart.specs.declared.device.Device.{Device}
-use Rattle.duart.specs.Device.{freshDevice, isSoundOf}
+use Rattle.device.specs.declared.device.Device.{Device}
+use Rattle.device.specs.Device.{freshDevice, isSoundOf}
 use Rattle.chip.specs.Table.{Step}
 
 -- the device after a chip reset at these levels, of which nothing else is kept

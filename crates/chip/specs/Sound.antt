@@ -3,10 +3,10 @@ use mathlib.Core.Path.{_≡_}
 use mathlib.Core.Bool.{true}
 use mathlib.Core.List.{List, [], _∷_}
 use Rattle.events.specs.declared.events.Event.{Event}
-use Rattle.duart.specs.declared.device.Device.{Device}
+use Rattle.device.specs.declared.device.Device.{Device}
 use Rattle.duart.specs.declared.duart.Taken.{Taken}
-use Rattle.duart.specs.Device.{isSoundOf}
-use Rattle.duart.specs.Refusals.{firstOf}
+use Rattle.device.specs.Device.{isSoundOf}
+use Rattle.refusals.specs.Refusals.{firstOf}
 use Rattle.chip.specs.Table.{Step}
 
 -- A way to take an event whose new state, before row 7 looks at it, is sound: on every sound device, reached or not, and for every event that

@@ -7,12 +7,13 @@ use lib.Dec.{eqb}
 use Rattle.format.specs.Pick.{pick}
 use Rattle.answers.specs.Answers.{noLines}
 use Rattle.events.specs.declared.events.Event.{Event}
-use Rattle.events.specs.Refusals.{registerAbove15, forbiddenRead, forbiddenCommand, settingNotModelled}
-use Rattle.duart.specs.declared.device.Device.{Device}
+use Rattle.events.specs.Refusals.{registerAbove15, forbiddenRead, forbiddenCommand}
+use Rattle.front_events.specs.NotModelled.{settingNotModelled}
+use Rattle.device.specs.declared.device.Device.{Device}
 use Rattle.duart.specs.declared.duart.Answer.{Answer}
-use Rattle.duart.specs.Device.{deviceLines}
+use Rattle.device.specs.Device.{deviceLines}
 use Rattle.duart.specs.Duart.{takenOf, newUnsound, acceptedOf}
-use Rattle.duart.specs.Refusals.{unsound, acknowledgedUnasserted}
+use Rattle.refusals.specs.Refusals.{unsound, acknowledgedUnasserted}
 
 -- a way to answer an event
 abbrev pub Step : Type 0

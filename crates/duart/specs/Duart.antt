@@ -6,14 +6,14 @@ use Rattle.format.specs.Pick.{pick}
 use Rattle.answers.specs.declared.answers.Lines.{Lines}
 use Rattle.answers.specs.Answers.{noLines, eventData}
 use Rattle.events.specs.declared.events.Event.{Event}
-use Rattle.events.specs.Events.{frontStepped}
+use Rattle.front_events.specs.FrontEvents.{frontStepped}
 use Rattle.front.specs.declared.front.Handed.{Handed}
 use Rattle.receiver.specs.Receiver.{fedOf}
-use Rattle.duart.specs.declared.device.Device.{Device}
+use Rattle.device.specs.declared.device.Device.{Device}
 use Rattle.duart.specs.declared.duart.Answer.{Answer}
 use Rattle.duart.specs.declared.duart.Taken.{Taken}
-use Rattle.duart.specs.Device.{isSoundOf, shownA, shownB, deviceLines}
-use Rattle.duart.specs.Refusals.{firstOf}
+use Rattle.device.specs.Device.{isSoundOf, shownA, shownB, deviceLines}
+use Rattle.refusals.specs.Refusals.{firstOf}
 
 -- What an event does where no row refuses it: the front is stepped, each receiver takes what it is handed, and the data byte is read from
 -- the state as it was. The new state, before row 7 looks at it:

@@ -1,4 +1,2 @@
--- What a reader must believe of the whole chip: a file a topic, under the names of src/.
-pub mod Device
-pub mod Refusals
+-- What a reader must believe of the whole chip: one event, one answer.
 pub mod Duart

@@ -1,14 +1,14 @@
 // One event, one answer.
-use crate::device::Device;
-use crate::device::device_lines;
-use crate::device::is_sound;
-use crate::refusals::first_refusal;
 use answers::Lines;
 use answers::event_data;
 use answers::no_lines;
+use device::Device;
+use device::device_lines;
+use device::is_sound;
 use events::Event;
-use events::step_front;
+use front_events::step_front;
 use receiver::feed_receiver;
+use refusals::first_refusal;
 use shown::show_channel;
 ghost use mathlib.Core.Path.{_≡_};
 ghost use Rattle.duart.specs.Duart.{takenOf, refusalLines, refusedOf, acceptedOf, stepOf};

@@ -1,3 +1,2 @@
--- What a reader must believe of the events: what each does to the front, and which of them rows 2 to 5 refuse.
-pub mod Events
+-- What a reader must believe of the events: which of them rows 2 to 4 refuse.
 pub mod Refusals

@@ -1,12 +1,7 @@
--- The rows of the table of answers that hang on the event and the front alone, each by itself. Assumes nothing.
-use Prim.Native.Nat.{ℕ}
+-- The rows of the table of answers that hang on the event alone, each by itself. Assumes nothing.
 use mathlib.Core.Bool.{Bool, false, _&&_, _||_}
 use lib.Dec.{eqb, ltb}
-use Rattle.format.specs.Pick.{pick}
 use Rattle.commands.specs.Commands.{commandForbidden}
-use Rattle.front.specs.declared.front.Front.{Front}
-use Rattle.outputs.specs.Outputs.{opcrNotModelled}
-use Rattle.side.specs.Side.{modeNotModelled}
 use Rattle.events.specs.declared.events.Event.{Event}
 use Rattle.events.specs.declared.events.Event.the-variants.{ChipReset, Read, Write, Acknowledge, Pins, Tick}
 
@@ -36,20 +31,3 @@ forbiddenCommand (Write n byte) = (eqb n 2 || eqb n 10) && commandForbidden byte
 forbiddenCommand Acknowledge = false
 forbiddenCommand (Pins levels) = false
 forbiddenCommand Tick = false
-
--- a setting not modelled can be chosen in MR1 or MR2, where that channel's pointer is, and in OPCR
-unfoldable pub writeNotModelled : Front → ℕ → ℕ → Bool
-writeNotModelled f n byte =
-    pick (eqb n 0) (modeNotModelled (f .a) byte)
-    (pick (eqb n 8) (modeNotModelled (f .b) byte)
-    (pick (eqb n 13) (opcrNotModelled byte)
-    false))
-
--- 5: "a write .. choosing a setting not modelled"
-unfoldable pub settingNotModelled : Front → Event → Bool
-settingNotModelled f ChipReset = false
-settingNotModelled f (Read n) = false
-settingNotModelled f (Write n byte) = writeNotModelled f n byte
-settingNotModelled f Acknowledge = false
-settingNotModelled f (Pins levels) = false
-settingNotModelled f Tick = false

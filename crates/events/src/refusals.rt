@@ -1,11 +1,8 @@
-// The rows of the table of answers that hang on the event and the front alone, each by itself.
+// The rows of the table of answers that hang on the event alone, each by itself.
 use crate::events::Event;
 use commands::command_forbidden;
-use front::Front;
-use outputs::opcr_not_modelled;
-use side::mode_not_modelled;
 ghost use mathlib.Core.Path.{_≡_};
-ghost use Rattle.events.specs.Refusals.{registerAbove15, forbiddenRead, forbiddenCommand, writeNotModelled, settingNotModelled};
+ghost use Rattle.events.specs.Refusals.{registerAbove15, forbiddenRead, forbiddenCommand};
 
 // 2: "register above 15"
 pub fn is_register_above_15(event: Event) -> bool
@@ -45,32 +42,6 @@ pub fn is_forbidden_command(event: Event) -> bool
         Event::Write(register, byte) => {
             ((register == 2) | (register == 10)) & command_forbidden(byte)
         }
-        Event::Acknowledge => false,
-        Event::Pins(levels) => false,
-        Event::Tick => false,
-    }
-}
-
-// MR1 or MR2, where that channel's pointer is, and OPCR: no other register has a setting not modelled.
-fn write_not_modelled(front: Front, register: u8, byte: u8) -> bool
-    ensures { λ r. ⌜ r ≡ writeNotModelled front register byte ⌝ }
-{
-    match register {
-        0 => mode_not_modelled(front.a, byte),
-        8 => mode_not_modelled(front.b, byte),
-        13 => opcr_not_modelled(byte),
-        _ => false,
-    }
-}
-
-// 5: "a write .. choosing a setting not modelled"
-pub fn chooses_not_modelled(front: Front, event: Event) -> bool
-    ensures { λ r. ⌜ r ≡ settingNotModelled front event ⌝ }
-{
-    match event {
-        Event::ChipReset => false,
-        Event::Read(register) => false,
-        Event::Write(register, byte) => write_not_modelled(front, register, byte),
         Event::Acknowledge => false,
         Event::Pins(levels) => false,
         Event::Tick => false,

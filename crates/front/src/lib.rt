@@ -1,13 +1,7 @@
 // The front of the MC68681: the two sides, the counter/timer, the ports and the registers that both channels
-// share. It runs the clocks and the transmitters, and hands each receiver what an event brings it; it holds
-// no receiver, so nothing a receiver does can reach it.
-//
-// One file a topic; specs/ has the definitions of each under the same name.
-mod clocking;
+// share. It holds no receiver, so nothing a receiver does can reach it.
 mod front;
 
-pub use clocking::move_levels;
-pub use clocking::tick_front;
 pub use front::Front;
 pub use front::Handed;
 pub use front::SideHanded;

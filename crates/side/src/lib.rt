@@ -1,13 +1,9 @@
 // One channel's side of the front: its mode registers and their pointer, CSR, the receiver's enable, the
 // transmitter and the phases of its clocks. A and B are two of these.
 //
-// One file a topic; specs/ has the definitions of each under the same name. Of the receiver the side knows
-// its enable alone, and what it hands to it.
-mod clocking;
+// Of the receiver the side knows its enable alone.
 mod side;
 
-pub use clocking::Clocking;
-pub use clocking::clock_side;
 pub use side::Side;
 pub use side::change_set;
 pub use side::fresh_side;

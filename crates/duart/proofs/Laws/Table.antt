@@ -8,11 +8,12 @@ use native.Mathlib.Omega.{arith}
 use lib.Dec.{eqb}
 use Rattle.format.specs.Pick.{pick}
 use Rattle.events.specs.declared.events.Event.{Event}
-use Rattle.events.specs.Refusals.{registerAbove15, forbiddenRead, forbiddenCommand, settingNotModelled}
-use Rattle.duart.specs.declared.device.Device.{Device}
-use Rattle.duart.specs.Device.{isSoundOf}
+use Rattle.events.specs.Refusals.{registerAbove15, forbiddenRead, forbiddenCommand}
+use Rattle.front_events.specs.NotModelled.{settingNotModelled}
+use Rattle.device.specs.declared.device.Device.{Device}
+use Rattle.device.specs.Device.{isSoundOf}
 use Rattle.duart.specs.Duart.{takenOf, numberOf, refusedOf, acceptedOf, stepOf}
-use Rattle.duart.specs.Refusals.{unsound, acknowledgedUnasserted, sixRows, firstOf}
+use Rattle.refusals.specs.Refusals.{unsound, acknowledgedUnasserted, sixRows, firstOf}
 
 none-of-six : (a b c d e f : Bool) (after : ℕ) → sixRows a b c d e f 0 ≡ 0 → sixRows a b c d e f after ≡ after
 unfolding pick

@@ -3,24 +3,18 @@
 use Prim.Native.Nat.{ℕ}
 use mathlib.Core.Path.{_≡_, refl}
 use mathlib.Core.Bool.{Bool, true, false, not, and-eq-true-iff}
-use borrow.Author.Tests.{not-true, le-leb}
+use borrow.Author.Tests.{not-true}
 use Rattle.format.specs.Format.{mr1NotModelled, mr2NotModelled}
 use Rattle.format.specs.Pick.{pick}
-use Rattle.format.proofs.Laws.Format.{width-least, width-most, parity-most}
-use Rattle.format.proofs.Laws.Pick.{pick-all}
 use Rattle.clocks.specs.Sound.{phasesInRange}
-use Rattle.clocks.proofs.Laws.Ranges.{phases-kept, restarted-in-range, restarted-on-change-kept}
-use Rattle.inputs.specs.declared.inputs.ChannelPins.{ChannelPins}
+use Rattle.clocks.proofs.Laws.Ranges.{restarted-in-range, restarted-on-change-kept}
 use Rattle.receiver.specs.declared.receiver.Feed.{Feed}
 use Rattle.receiver.specs.Sound.{feedInRange}
-use Rattle.sampler.specs.Sound.{settingInRange}
-use Rattle.sending.specs.declared.state.Transmitter.{Transmitter}
 use Rattle.transmitter.specs.declared.transmitter.Input.{Input}
 use Rattle.transmitter.specs.Sound.{transmitterInRange}
 use Rattle.transmitter.specs.Transmitter.{afterInput}
 use Rattle.transmitter.proofs.Laws.Ranges.{ranges-kept}
 use Rattle.side.specs.declared.side.Side.{Side}
-use Rattle.side.specs.Clocking.{transmitterPulsed, settingOf, lineOf, sideClocked}
 use Rattle.side.specs.Side.{freshSide, withModes, withEnabled, withTransmitter, modeNotModelled, modeWritten, csrWritten, setChanged, bufferWritten}
 use Rattle.side.specs.Sound.{sideInRange}
 
@@ -86,34 +80,3 @@ input-within s x h = record { mr1 = h .mr1; mr2 = h .mr2; transmitter = ranges-k
 pub buffer-written-within : (s : Side) (byte : ℕ) → SideWithin s → SideWithin (bufferWritten s byte)
 unfolding bufferWritten
 buffer-written-within s byte h = input-within s _ h
-
--- ---- a tick or a pin event ----
-
-pulsed-in-range : (s : Side) (pulse cts : Bool) → SideWithin s → transmitterInRange (transmitterPulsed s pulse cts) ≡ true
-unfolding transmitterPulsed
-pulsed-in-range s pulse cts h =
-    pick-all (λ (t : Transmitter). transmitterInRange t ≡ true) pulse _ _ (ranges-kept (s .transmitter) _ (h .transmitter)) (h .transmitter)
-
-setting-in-range : (s : Side) → SideWithin s → settingInRange (settingOf s) ≡ true
-setting-in-range s h =
-    rw (le-leb _ _ (width-least (s .mr1)), le-leb _ _ (width-most (s .mr1)), le-leb _ _ (parity-most (s .mr1) (h .mr1)))
-
-pub line-in-range : (s : Side) (pulse rxd : Bool) → SideWithin s → feedInRange (lineOf s pulse rxd) ≡ true
-unfolding lineOf
-line-in-range s pulse rxd h = pick-all Carries (s .enabled) _ _ (pick-all Carries pulse _ _ (setting-in-range s h) refl) refl
-  where
-    Carries : Feed → Type 0
-    Carries e = feedInRange e ≡ true
-
-pub clocked-within : (s : Side) (second : Bool) (pins : ChannelPins) (tick toggled : Bool) → SideWithin s
-    → HandsWithin (sideClocked s second pins tick toggled .side) (sideClocked s second pins tick toggled .feed)
-unfolding sideClocked
-clocked-within s second pins tick toggled h =
-    let sent : SideWithin (sideClocked s second pins tick toggled .side) =
-    record {
-      mr1 = h .mr1;
-      mr2 = h .mr2;
-      transmitter = pulsed-in-range s _ (pins .cts) h;
-      phases = phases-kept (s .phases) second (s .csr) _ (h .phases);
-    } in
-    record { side = sent; feed = line-in-range _ _ (pins .rxd) sent }

@@ -4,7 +4,7 @@ use borrow.Author.Needs.{needs}
 use Rattle.duart.proofs.duart.step.Statement.{statement}
 use Rattle.duart.proofs.duart.step.Tie as tie
 use Rattle.duart.proofs.Laws.Table.{accepts, refuses-seven, refuses-first}
-use Rattle.duart.specs.Device.{isSoundOf}
+use Rattle.device.specs.Device.{isSoundOf}
 use Rattle.duart.specs.declared.duart.Taken.{Taken}
 
 first-refusal-requires : tie.Need-first-refusal-requires

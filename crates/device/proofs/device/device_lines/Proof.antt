@@ -1,0 +1,22 @@
+-- `device_lines` meets its contract: it is what its callees answer. Assumes nothing.
+use borrow.Author.Needs.{needs}
+use Rattle.device.proofs.device.device_lines.Statement.{statement}
+use Rattle.device.proofs.device.device_lines.Tie as tie
+use Rattle.device.specs.Device.{deviceLines}
+
+show-channel-requires : tie.Need-show-channel-requires
+show-channel-requires c κs = search needs
+
+show-channel-requires-2 : tie.Need-show-channel-requires-2
+show-channel-requires-2 c κs = search needs
+
+lines-of-requires : tie.Need-lines-of-requires
+lines-of-requires c κs = search needs
+
+returns : tie.Need-returns
+unfolding deviceLines
+returns c = simp (c .lines-of .ensures, c .before .show-channel2 .ensures, c .before .before .show-channel .ensures)
+
+pub device-lines-spec : {M : Type 1} → statement M
+device-lines-spec =
+    tie.close (tie.spec show-channel-requires show-channel-requires-2 lines-of-requires returns)

@@ -1,0 +1,15 @@
+-- `reset_front` meets its contract: one arm an event, each the definition's. Assumes nothing.
+use borrow.Author.Needs.{needs}
+use Rattle.front_events.proofs.front_events.reset_front.Statement.{statement}
+use Rattle.front_events.proofs.front_events.reset_front.Tie as tie
+use Rattle.front_events.specs.FrontEvents.{frontReset}
+
+front-at-requires : tie.Need-front-at-requires
+front-at-requires c κs = search needs
+
+returns : tie.Need-returns
+unfolding frontReset
+returns c = simp (c .front-at .ensures)
+
+pub reset-front-spec : {M : Type 1} → statement M
+reset-front-spec = tie.close (tie.spec front-at-requires returns)

@@ -1,0 +1,22 @@
+-- `is_device_asserted` meets its contract: it is what its callees answer. Assumes nothing.
+use borrow.Author.Needs.{needs}
+use Rattle.refusals.proofs.refusals.is_device_asserted.Statement.{statement}
+use Rattle.refusals.proofs.refusals.is_device_asserted.Tie as tie
+use Rattle.refusals.specs.Refusals.{deviceAsserted}
+
+show-channel-requires : tie.Need-show-channel-requires
+show-channel-requires c κs = search needs
+
+show-channel-requires-2 : tie.Need-show-channel-requires-2
+show-channel-requires-2 c κs = search needs
+
+is-asserted-requires : tie.Need-is-asserted-requires
+is-asserted-requires c κs = search needs
+
+returns : tie.Need-returns
+unfolding deviceAsserted
+returns c = simp (c .is-asserted .ensures, c .before .show-channel2 .ensures, c .before .before .show-channel .ensures)
+
+pub is-device-asserted-spec : {M : Type 1} → statement M
+is-device-asserted-spec =
+    tie.close (tie.spec show-channel-requires show-channel-requires-2 is-asserted-requires returns)

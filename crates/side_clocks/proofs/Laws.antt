@@ -1,0 +1,2 @@
+-- The laws of a side in a tick or a pin event. Assumes nothing.
+pub mod Ranges

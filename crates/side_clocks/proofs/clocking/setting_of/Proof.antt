@@ -1,0 +1,18 @@
+-- `setting_of` meets its contract: it is what its callees answer. Assumes nothing.
+use borrow.Author.Needs.{needs}
+use Rattle.side_clocks.proofs.clocking.setting_of.Statement.{statement}
+use Rattle.side_clocks.proofs.clocking.setting_of.Tie as tie
+use Rattle.side_clocks.specs.Clocking.{settingOf}
+
+format-of-requires : tie.Need-format-of-requires
+format-of-requires c κs = search needs
+
+is-sixteen-requires : tie.Need-is-sixteen-requires
+is-sixteen-requires c κs = search needs
+
+returns : tie.Need-returns
+unfolding settingOf
+returns c = simp (c .is-sixteen .ensures, c .before .before .format-of .ensures)
+
+pub setting-of-spec : {M : Type 1} → statement M
+setting-of-spec = tie.close (tie.spec format-of-requires is-sixteen-requires returns)
