@@ -6,10 +6,11 @@ use mathlib.Core.Bool.{Bool, true, false}
 use mathlib.Core.List.{List, [], _∷_}
 use Rattle.format.specs.Format.{formatOf}
 use Rattle.format.specs.Pick.{pick}
+use Rattle.receiver_commands.specs.Commands.{effectOf, enablingOf}
+use Rattle.receiver.specs.Receiver.{fedOf}
+use Rattle.transmitter.specs.Transmitter.{afterInput}
 use Rattle.bytes.specs.Bytes.{hasBit, weightOf, byteOf}
 use Rattle.outputs.specs.Outputs.{drivenBy, drivenOp3, opLevels}
-use Rattle.receiver.specs.Receiver.{effectOf, enablingOf, fedOf}
-use Rattle.transmitter.specs.Transmitter.{afterInput}
 use Rattle.side.specs.Side.{freshSide, modeNotModelled, modeWritten, withModes}
 use Rattle.commands.specs.Commands.{transmitterEffect, receiverEffect, transmitterEnabling, receiverEnabling, sideCommanded, commandFeed}
 use Rattle.shown.specs.Shown.{receivedOf, shownOf}

@@ -19,18 +19,18 @@ use Rattle.sampler.specs.Sampler.{sampleOf}
 use Rattle.sampler.specs.Sound.{samplerInRange}
 use Rattle.queue.specs.Queue.{put, waits, withoutWaiting, heldOf}
 use Rattle.arrivals.specs.declared.arrivals.Receiver.{Receiver}
-use Rattle.receiver.specs.declared.receiver.Effect.{Effect}
-use Rattle.receiver.specs.declared.receiver.Effect.the-variants.{NoEffect, Reset, ClearErrors, ClearBreakChange}
-use Rattle.receiver.specs.declared.receiver.Enabling.{Enabling}
-use Rattle.receiver.specs.declared.receiver.Enabling.the-variants.{Stays, Enables, Disables}
+use Rattle.receiver_commands.specs.declared.commands.Effect.{Effect}
+use Rattle.receiver_commands.specs.declared.commands.Effect.the-variants.{NoEffect, Reset, ClearErrors, ClearBreakChange}
+use Rattle.receiver_commands.specs.declared.commands.Enabling.{Enabling}
+use Rattle.receiver_commands.specs.declared.commands.Enabling.the-variants.{Stays, Enables, Disables}
+use Rattle.receiver_status.specs.declared.status.Status.{Status}
 use Rattle.receiver.specs.declared.receiver.Feed.{Feed}
 use Rattle.receiver.specs.declared.receiver.Feed.the-variants as Feeds
-use Rattle.receiver.specs.declared.status.Status.{Status}
+use Rattle.shown.specs.declared.shown.Shown.{Shown}
+use Rattle.shown.specs.Shown.{blockErrors, shownOf}
 use Rattle.front.specs.declared.front.Front.{Front}
 use Rattle.front.specs.declared.front.Handed.{Handed}
 use Rattle.front.specs.Sound.{frontInRange}
-use Rattle.shown.specs.declared.shown.Shown.{Shown}
-use Rattle.shown.specs.Shown.{blockErrors, shownOf}
 use Rattle.events.specs.declared.events.Event.{Event}
 use Rattle.events.specs.declared.events.Event.the-variants.{ChipReset, Read, Write, Acknowledge, Pins, Tick}
 use Rattle.front_events.specs.FrontEvents.{frontStepped}

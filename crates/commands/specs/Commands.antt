@@ -3,17 +3,17 @@ use Prim.Native.Nat.{ℕ, _/_, _%_}
 use mathlib.Core.Bool.{Bool, not, _&&_, _||_}
 use lib.Dec.{eqb}
 use Rattle.format.specs.Pick.{pick}
-use Rattle.receiver.specs.declared.receiver.Effect.{Effect}
-use Rattle.receiver.specs.declared.receiver.Effect.the-variants as Receivers
-use Rattle.receiver.specs.declared.receiver.Enabling.{Enabling}
-use Rattle.receiver.specs.declared.receiver.Enabling.the-variants.{Stays, Enables, Disables}
+use Rattle.receiver_commands.specs.declared.commands.Effect.{Effect}
+use Rattle.receiver_commands.specs.declared.commands.Effect.the-variants as Receivers
+use Rattle.receiver_commands.specs.declared.commands.Enabling.{Enabling}
+use Rattle.receiver_commands.specs.declared.commands.Enabling.the-variants.{Stays, Enables, Disables}
 use Rattle.receiver.specs.declared.receiver.Feed.{Feed}
 use Rattle.receiver.specs.declared.receiver.Feed.the-variants.{Command}
-use Rattle.side.specs.declared.side.Side.{Side}
-use Rattle.side.specs.Side.{withEnabled, withTransmitter, pointedAt}
 use Rattle.transmitter.specs.declared.transmitter.Input.{Input}
 use Rattle.transmitter.specs.declared.transmitter.Input.the-variants as Transmitters
 use Rattle.transmitter.specs.Transmitter.{afterInput}
+use Rattle.side.specs.declared.side.Side.{Side}
+use Rattle.side.specs.Side.{withEnabled, withTransmitter, pointedAt}
 
 -- "command whose bits 3-2 or 1-0 are 11"
 abbrev pub commandForbidden : ℕ → Bool

@@ -1,8 +1,8 @@
 // "Command: bit 7 ignored; bits 6-4 first, then 3-2 (01 enable, 10 disable transmitter), then 1-0
 // (receiver)."
-use receiver::Effect;
-use receiver::Enabling;
 use receiver::Feed;
+use receiver_commands::Effect;
+use receiver_commands::Enabling;
 use side::Side;
 use transmitter::Input;
 use transmitter::step_transmitter;

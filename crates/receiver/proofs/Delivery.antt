@@ -23,18 +23,19 @@ use Rattle.queue.specs.Queue.{heldOf, replaced, took, isEmptyOf, oldestOf, repl
 use Rattle.queue.proofs.Laws.Queue.{held-length, held-put, held-without-waiting, at-least-held, held-took, held-replaced, held-empty, is-empty-held, oldest-held}
 use Rattle.arrivals.specs.declared.arrivals.Receiver.{Receiver}
 use Rattle.arrivals.specs.Arrivals.{answeredOf, freshReceiver, oldestMarks, heardOf, startedOf, enteredOf, arrivedOf, pulsedOf}
-use Rattle.receiver.specs.declared.receiver.Effect.{Effect}
-use Rattle.receiver.specs.declared.receiver.Effect.the-variants.{NoEffect, Reset, ClearErrors, ClearBreakChange}
+use Rattle.receiver_commands.specs.declared.commands.Effect.{Effect}
+use Rattle.receiver_commands.specs.declared.commands.Effect.the-variants.{NoEffect, Reset, ClearErrors, ClearBreakChange}
+use Rattle.receiver_commands.specs.declared.commands.Enabling.{Enabling}
+use Rattle.receiver_commands.specs.declared.commands.Enabling.the-variants.{Stays, Enables, Disables}
+use Rattle.receiver_commands.specs.Commands.{effectOf, enablingOf}
+use Rattle.receiver_status.specs.Status.{shownMarks, statusOf}
 use Rattle.receiver.specs.declared.receiver.Fed.{Fed}
 use Rattle.receiver.specs.declared.receiver.Feed.{Feed}
 use Rattle.receiver.specs.declared.receiver.Feed.the-variants.{Nothing, Pulse, Command, Read, ChipReset}
-use Rattle.receiver.specs.declared.receiver.Enabling.{Enabling}
-use Rattle.receiver.specs.declared.receiver.Enabling.the-variants.{Stays, Enables, Disables}
 use Rattle.receiver.specs.Delivery.{Entry, starts, enters, overruns, Ledger, opened, pulseWritten, effectWritten, enablingWritten, written, ledgerFrom, ledger, asArrived, after, given, reads, linesOf, effectLines, enablingLines, linesOver, Delivers}
 use Rattle.receiver.specs.Delivery.Entry.{entry}
 use Rattle.receiver.specs.Delivery.Fate.{Held, WasRead, Overrun}
-use Rattle.receiver.specs.Receiver.{effectOf, enablingOf, oldestRead, readOf, fedOf}
-use Rattle.receiver.specs.Status.{shownMarks, statusOf}
+use Rattle.receiver.specs.Receiver.{oldestRead, readOf, fedOf}
 use Rattle.receiver.proofs.Laws.Ledger.{Tells, tells-fates, firstMarks, tells-marks, tells-entered, tells-read, tells-dropped, firstCleared, tells-cleared, tells-overrun, overruns-grow, overruns-entered, arrived-meets, arrived-dropped, arrived-cleared}
 use Rattle.receiver.proofs.Laws.Ledger.Tells.{nothing}
 use Rattle.receiver.proofs.Laws.Waiting.{Room, answered-sampler, started-count, fed-room}

@@ -20,15 +20,16 @@ use Rattle.sampler.specs.Sampler.{lowAt, hunted, lookedAgain, finished, sampled
 use Rattle.queue.specs.Queue.{heldOf, waitsOf, putOf, withoutWaitingOf, tookOf}
 use Rattle.arrivals.specs.declared.arrivals.Receiver.{Receiver}
 use Rattle.arrivals.specs.Arrivals.{freshReceiver, oldestMarks, startedOf, enteredOf, arrivedOf, pulsedOf}
-use Rattle.receiver.specs.declared.receiver.Effect.the-variants.{NoEffect, Reset}
+use Rattle.receiver_commands.specs.declared.commands.Effect.the-variants.{NoEffect, Reset}
+use Rattle.receiver_commands.specs.declared.commands.Enabling.the-variants.{Stays, Enables}
+use Rattle.receiver_commands.specs.Commands.{effectOf, enablingOf}
+use Rattle.receiver_status.specs.Status.{shownMarks, statusOf}
 use Rattle.receiver.specs.declared.receiver.Feed.{Feed}
 use Rattle.receiver.specs.declared.receiver.Feed.the-variants.{Pulse, Command, Read}
-use Rattle.receiver.specs.declared.receiver.Enabling.the-variants.{Stays, Enables}
 use Rattle.receiver.specs.Delivery.{after, given, reads}
 use Rattle.receiver.specs.ReadBack.{pulses, sentAll, Idle}
-use Rattle.receiver.specs.Receiver.{effectOf, enablingOf, oldestRead, readOf, fedOf}
+use Rattle.receiver.specs.Receiver.{oldestRead, readOf, fedOf}
 use Rattle.receiver.specs.Sound.{waitingSound}
-use Rattle.receiver.specs.Status.{shownMarks, statusOf}
 
 -- MR1 19: 8 data bits, no parity
 abbrev eight : Format

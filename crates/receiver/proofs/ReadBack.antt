@@ -31,8 +31,8 @@ use Rattle.queue.specs.Queue.{heldOf, withoutWaitingOf}
 use Rattle.queue.proofs.Laws.Queue.{held-put, held-without-waiting, is-empty-held, without-waiting-count}
 use Rattle.arrivals.specs.declared.arrivals.Receiver.{Receiver}
 use Rattle.arrivals.specs.Arrivals.{withSampler, withChange, heardOf, startedOf, enteredOf, arrivedOf, pulsedOf}
+use Rattle.receiver_status.specs.Status.{statusOf}
 use Rattle.receiver.specs.declared.receiver.Feed.{Feed}
-use Rattle.receiver.specs.Status.{statusOf}
 use Rattle.receiver.specs.Delivery.{linesOf, linesOver, after}
 use Rattle.receiver.specs.ReadBack.{pulses, sent, sentAll, Idle, ReadBack, ReadBackAll, ReadsBack}
 use Rattle.receiver.specs.Receiver.{fedOf}

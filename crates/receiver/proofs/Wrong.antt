@@ -23,17 +23,18 @@ use Rattle.queue.specs.declared.queue.Queue.{Queue}
 use Rattle.queue.specs.Queue.{heldOf, emptyQueue, waitsOf, putOf, withoutWaitingOf, tookOf}
 use Rattle.arrivals.specs.declared.arrivals.Receiver.{Receiver}
 use Rattle.arrivals.specs.Arrivals.{withSampler, withChange, withQueue, freshReceiver, startedOf, enteredOf, arrivedOf, pulsedOf}
-use Rattle.receiver.specs.declared.receiver.Effect.the-variants.{NoEffect, Reset, ClearErrors, ClearBreakChange}
+use Rattle.receiver_commands.specs.declared.commands.Effect.the-variants.{NoEffect, Reset, ClearErrors, ClearBreakChange}
+use Rattle.receiver_commands.specs.declared.commands.Enabling.the-variants.{Stays, Enables, Disables}
+use Rattle.receiver_commands.specs.Commands.{effectOf, enablingOf}
+use Rattle.receiver_status.specs.Status.{statusOf}
 use Rattle.receiver.specs.declared.receiver.Fed.{Fed}
 use Rattle.receiver.specs.declared.receiver.Feed.{Feed}
 use Rattle.receiver.specs.declared.receiver.Feed.the-variants.{Nothing, Pulse, Command, Read, ChipReset}
-use Rattle.receiver.specs.declared.receiver.Enabling.the-variants.{Stays, Enables, Disables}
 use Rattle.receiver.specs.Delivery.{Fate, written, ledgerFrom, Step, Show, after, given, reads, Delivers}
 use Rattle.receiver.specs.Delivery.Fate.{Held}
 use Rattle.receiver.specs.ReadBack.{pulses, sentAll, ReadsBack}
 use Rattle.receiver.specs.Sound.{KeepsSound}
-use Rattle.receiver.specs.Receiver.{unread, effectOf, enablingOf, oldestRead, readOf, fedOf}
-use Rattle.receiver.specs.Status.{statusOf}
+use Rattle.receiver.specs.Receiver.{unread, oldestRead, readOf, fedOf}
 
 -- what a feed leaves, with another queue
 abbrev queueInstead : Fed → Queue → Fed

@@ -21,14 +21,14 @@ use Rattle.sampler.specs.Lines.{Line, hears, arrivals}
 use Rattle.sampler.specs.Lines.Line.{pulse, enable, disable}
 use Rattle.queue.specs.Queue.{heldOf}
 use Rattle.arrivals.specs.declared.arrivals.Receiver.{Receiver}
-use Rattle.receiver.specs.declared.receiver.Effect.{Effect}
-use Rattle.receiver.specs.declared.receiver.Effect.the-variants.{NoEffect, Reset, ClearErrors, ClearBreakChange}
+use Rattle.receiver_commands.specs.declared.commands.Effect.{Effect}
+use Rattle.receiver_commands.specs.declared.commands.Effect.the-variants.{NoEffect, Reset, ClearErrors, ClearBreakChange}
+use Rattle.receiver_commands.specs.declared.commands.Enabling.{Enabling}
+use Rattle.receiver_commands.specs.declared.commands.Enabling.the-variants.{Stays, Enables, Disables}
+use Rattle.receiver_status.specs.declared.status.Status.{Status}
 use Rattle.receiver.specs.declared.receiver.Fed.{Fed}
 use Rattle.receiver.specs.declared.receiver.Feed.{Feed}
 use Rattle.receiver.specs.declared.receiver.Feed.the-variants.{Nothing, Pulse, Command, Read, ChipReset}
-use Rattle.receiver.specs.declared.receiver.Enabling.{Enabling}
-use Rattle.receiver.specs.declared.receiver.Enabling.the-variants.{Stays, Enables, Disables}
-use Rattle.receiver.specs.declared.status.Status.{Status}
 
 -- ---- what a sampler sees of a feed ----
 

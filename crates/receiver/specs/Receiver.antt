@@ -1,50 +1,13 @@
 -- What a feed does to a receiver: a pulse, a command, a read, a chip reset. Assumes nothing.
-use mathlib.Core.Bool.{false}
 use Rattle.format.specs.Pick.{pick}
-use Rattle.character.specs.Character.{noMarks, orMarks, unmarkedOf}
-use Rattle.assembly.specs.State.{hunting}
-use Rattle.queue.specs.Queue.{emptyQueue, isEmptyOf, oldestOf, tookOf, replacedOf}
+use Rattle.character.specs.Character.{orMarks}
+use Rattle.queue.specs.Queue.{isEmptyOf, oldestOf, tookOf}
 use Rattle.arrivals.specs.declared.arrivals.Receiver.{Receiver}
-use Rattle.arrivals.specs.Arrivals.{freshReceiver, oldestMarks, withSampler, withQueue, withOverrun, withSums, withChange, withLast, pulsedOf}
-use Rattle.receiver.specs.declared.receiver.Effect.{Effect}
-use Rattle.receiver.specs.declared.receiver.Effect.the-variants.{NoEffect, Reset, ClearErrors, ClearBreakChange}
+use Rattle.arrivals.specs.Arrivals.{freshReceiver, oldestMarks, withQueue, withSums, withLast, pulsedOf}
+use Rattle.receiver_commands.specs.Commands.{effectOf, enablingOf}
 use Rattle.receiver.specs.declared.receiver.Fed.{Fed}
 use Rattle.receiver.specs.declared.receiver.Feed.{Feed}
 use Rattle.receiver.specs.declared.receiver.Feed.the-variants.{Nothing, Pulse, Command, Read, ChipReset}
-use Rattle.receiver.specs.declared.receiver.Enabling.{Enabling}
-use Rattle.receiver.specs.declared.receiver.Enabling.the-variants.{Stays, Enables, Disables}
-
--- ---- a command ----
-
--- "Disable drops the character being put together and ends the wait for a break's end, no more."
-abbrev pub assemblyDropped : Receiver → Receiver
-assemblyDropped r = withSampler r (hunting false)
-
--- "2 reset receiver (disabled; queue, waiting place and assembly cleared; overrun mark stays)"
-abbrev pub resetOf : Receiver → Receiver
-resetOf r = withQueue (assemblyDropped r) emptyQueue
-
--- "4 clear overrun, block sums and the top character's marks"
-abbrev pub errorsCleared : Receiver → Receiver
-errorsCleared r = withSums (withOverrun (withQueue r (replacedOf (r .queue) (unmarkedOf (oldestOf (r .queue))))) false) noMarks
-
--- "5 clear break change"
-abbrev pub breakChangeCleared : Receiver → Receiver
-breakChangeCleared r = withChange r false
-
--- bits 6-4 of a command
-unfoldable pub effectOf : Receiver → Effect → Receiver
-effectOf r NoEffect = r
-effectOf r Reset = resetOf r
-effectOf r ClearErrors = errorsCleared r
-effectOf r ClearBreakChange = breakChangeCleared r
-
--- Bits 1-0 of a command, of a receiver that was off (`Enables`) or on (`Disables`): "A receiver just enabled must sample a high before a
--- low counts". "Enabling it again changes nothing.": that is `Stays`.
-unfoldable pub enablingOf : Receiver → Enabling → Receiver
-enablingOf r Stays = r
-enablingOf r Enables = assemblyDropped r
-enablingOf r Disables = assemblyDropped r
 
 -- ---- a read ----
 

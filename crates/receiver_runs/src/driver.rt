@@ -4,7 +4,7 @@ use assembly::Setting;
 use draws::weighed;
 use receiver::Feed;
 use receiver::feed_receiver;
-use receiver::show_status;
+use receiver_status::show_status;
 
 // The receiver, what a chip would keep for it (its enable, MR1, 16X or 1X), and the sums.
 pub struct Driver {

@@ -6,11 +6,11 @@ use crate::driver::next;
 use crate::driver::observe;
 use crate::driver::plus;
 use draws::weighed;
-use receiver::Effect;
-use receiver::Enabling;
 use receiver::Feed;
 use receiver::feed_receiver;
-use receiver::show_status;
+use receiver_commands::Effect;
+use receiver_commands::Enabling;
+use receiver_status::show_status;
 
 pub fn read(driver: Driver) -> Driver {
     let status = show_status(driver.receiver, false);

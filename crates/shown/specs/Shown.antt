@@ -3,14 +3,14 @@ use Prim.Native.Nat.{ℕ, _/_, _%_}
 use mathlib.Core.Bool.{Bool}
 use lib.Dec.{eqb}
 use Rattle.format.specs.Pick.{pick}
-use Rattle.bytes.specs.Bytes.{byteOf}
 use Rattle.arrivals.specs.declared.arrivals.Receiver.{Receiver}
-use Rattle.receiver.specs.declared.status.Status.{Status}
-use Rattle.receiver.specs.Status.{statusOf}
-use Rattle.side.specs.declared.side.Side.{Side}
-use Rattle.shown.specs.declared.shown.Shown.{Shown}
+use Rattle.receiver_status.specs.declared.status.Status.{Status}
+use Rattle.receiver_status.specs.Status.{statusOf}
 use Rattle.transmitter.specs.declared.status.TransmitterStatus.{TransmitterStatus}
 use Rattle.transmitter.specs.Status as Transmitters
+use Rattle.bytes.specs.Bytes.{byteOf}
+use Rattle.side.specs.declared.side.Side.{Side}
+use Rattle.shown.specs.declared.shown.Shown.{Shown}
 
 -- "SR bits 7-0: break, framing, parity, overrun, TxEMT, TxRDY, FFULL, RxRDY."
 abbrev pub statusRegister : Status → TransmitterStatus → ℕ

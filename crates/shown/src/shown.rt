@@ -1,8 +1,8 @@
 // The status register, and the interrupt status register.
 use arrivals::Receiver;
 use bytes::byte_of;
-use receiver::Status;
-use receiver::show_status;
+use receiver_status::Status;
+use receiver_status::show_status;
 use side::Side;
 use transmitter::TransmitterStatus;
 use transmitter::transmitter_status;

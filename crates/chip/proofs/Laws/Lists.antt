@@ -19,15 +19,16 @@ use Rattle.queue.proofs.Laws.Queue.{held-length, held-put, held-without-waiting
 use Rattle.arrivals.specs.declared.arrivals.Receiver.{Receiver}
 use Rattle.arrivals.specs.Arrivals as Arrivals
 use Rattle.arrivals.specs.Arrivals.{answeredOf, heardOf, startedOf, enteredOf, arrivedOf, pulsedOf}
-use Rattle.receiver.specs.declared.receiver.Effect.{Effect}
-use Rattle.receiver.specs.declared.receiver.Effect.the-variants.{NoEffect, Reset, ClearErrors, ClearBreakChange}
-use Rattle.receiver.specs.declared.receiver.Enabling.{Enabling}
-use Rattle.receiver.specs.declared.receiver.Enabling.the-variants.{Stays, Enables, Disables}
+use Rattle.receiver_commands.specs.declared.commands.Effect.{Effect}
+use Rattle.receiver_commands.specs.declared.commands.Effect.the-variants.{NoEffect, Reset, ClearErrors, ClearBreakChange}
+use Rattle.receiver_commands.specs.declared.commands.Enabling.{Enabling}
+use Rattle.receiver_commands.specs.declared.commands.Enabling.the-variants.{Stays, Enables, Disables}
+use Rattle.receiver_commands.specs.Commands.{effectOf, enablingOf}
+use Rattle.receiver_status.specs.Status.{shownMarks, statusOf}
 use Rattle.receiver.specs.declared.receiver.Fed.{Fed}
 use Rattle.receiver.specs.declared.receiver.Feed.{Feed}
 use Rattle.receiver.specs.declared.receiver.Feed.the-variants as Feeds
-use Rattle.receiver.specs.Receiver.{effectOf, enablingOf, oldestRead, readOf, fedOf}
-use Rattle.receiver.specs.Status.{shownMarks, statusOf}
+use Rattle.receiver.specs.Receiver.{oldestRead, readOf, fedOf}
 use Rattle.receiver.proofs.Laws.Waiting.{Room, started-count}
 use Rattle.soundness.specs.Soundness.{receiverSound}
 use Rattle.chip.specs.Lists.{ListFed, oldestMarks, listStarted, summed, listArrived, listAnswered, topUnmarked, listEffect, listEnabling, listRead, listFedOf, listStatus, listSound, listOf}

@@ -18,14 +18,15 @@ use Rattle.queue.specs.Sound.{queueInRange}
 use Rattle.queue.proofs.Laws.Queue.{put-count, without-waiting-count, took-count}
 use Rattle.arrivals.specs.declared.arrivals.Receiver.{Receiver}
 use Rattle.arrivals.specs.Arrivals.{answeredOf, heardOf, startedOf, enteredOf, arrivedOf, pulsedOf}
-use Rattle.receiver.specs.declared.receiver.Effect.{Effect}
-use Rattle.receiver.specs.declared.receiver.Effect.the-variants.{NoEffect, Reset, ClearErrors, ClearBreakChange}
+use Rattle.receiver_commands.specs.declared.commands.Effect.{Effect}
+use Rattle.receiver_commands.specs.declared.commands.Effect.the-variants.{NoEffect, Reset, ClearErrors, ClearBreakChange}
+use Rattle.receiver_commands.specs.declared.commands.Enabling.{Enabling}
+use Rattle.receiver_commands.specs.declared.commands.Enabling.the-variants.{Stays, Enables, Disables}
+use Rattle.receiver_commands.specs.Commands.{effectOf, enablingOf}
 use Rattle.receiver.specs.declared.receiver.Fed.{Fed}
 use Rattle.receiver.specs.declared.receiver.Feed.{Feed}
 use Rattle.receiver.specs.declared.receiver.Feed.the-variants.{Nothing, Pulse, Command, Read, ChipReset}
-use Rattle.receiver.specs.declared.receiver.Enabling.{Enabling}
-use Rattle.receiver.specs.declared.receiver.Enabling.the-variants.{Stays, Enables, Disables}
-use Rattle.receiver.specs.Receiver.{effectOf, enablingOf, oldestRead, readOf, fedOf}
+use Rattle.receiver.specs.Receiver.{oldestRead, readOf, fedOf}
 use Rattle.receiver.specs.Sound.{waitingSound}
 
 -- ---- the receiver ----

@@ -1,0 +1,1 @@
+-- No laws stand here: those of a receiver stand in the crate above.

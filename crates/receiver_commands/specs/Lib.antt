@@ -1,0 +1,2 @@
+-- What a reader must believe of what a command does to a receiver.
+pub mod Commands
