@@ -4,11 +4,11 @@ use mathlib.Core.Path.{_≡_, refl}
 use mathlib.Core.Bool.{Bool, true, false}
 use lib.ListN.{replicate}
 use Rattle.format.specs.Pick.{pick}
+use Rattle.dividers.specs.Divider.{dividedOf, sixteenthOf}
+use Rattle.dividers.specs.Rates.{periodOf}
 use Rattle.clocks.specs.declared.channel.ClockEvent.{ClockEvent}
 use Rattle.clocks.specs.declared.channel.Clocked.{Clocked}
 use Rattle.clocks.specs.declared.channel.Phases.{Phases}
-use Rattle.clocks.specs.Divider.{dividedOf, sixteenthOf}
-use Rattle.clocks.specs.Rates.{periodOf}
 use Rattle.clocks.specs.Channel.{restarted, restartedOnChange, tickedOf, sideOf, transmitter1x, clockedOf}
 use Rattle.clocks.specs.Pulses.{afterEvents, next}
 

@@ -1,5 +1,2 @@
--- The laws of the clocks, a file a topic. Assumes nothing.
-pub mod Divider
-pub mod Rates
-pub mod Runs
+-- The laws of a channel's clocks. Those of the dividers and the rates stand in the crate below. Assumes nothing.
 pub mod Ranges

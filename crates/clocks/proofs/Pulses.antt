@@ -14,19 +14,19 @@ use Rattle.format.specs.declared.counts.Ticks.{Ticks}
 use Rattle.format.specs.Digits.{bit}
 use Rattle.format.specs.Pick.{pick}
 use Rattle.format.proofs.Laws.Pick.{pick-yes}
+use Rattle.dividers.specs.declared.divider.Divided.{Divided}
+use Rattle.dividers.specs.declared.divider.Sixteenth.{Sixteenth}
+use Rattle.dividers.specs.Divider.{dividedOf}
+use Rattle.dividers.specs.Rates.{periodOf}
+use Rattle.dividers.proofs.Laws.Divider.{ticksOf, pulsesOf, divided-at, sixteenth-at}
+use Rattle.dividers.proofs.Laws.Rates.{period-between}
+use Rattle.dividers.proofs.Laws.Runs.{runs-more}
 use Rattle.clocks.specs.declared.channel.ClockEvent.{ClockEvent}
 use Rattle.clocks.specs.declared.channel.Clocked.{Clocked}
 use Rattle.clocks.specs.declared.channel.Phases.{Phases}
-use Rattle.clocks.specs.declared.divider.Divided.{Divided}
-use Rattle.clocks.specs.declared.divider.Sixteenth.{Sixteenth}
-use Rattle.clocks.specs.Divider.{dividedOf}
-use Rattle.clocks.specs.Rates.{periodOf}
 use Rattle.clocks.specs.Channel.{restarted, isSixteen, tickedOf, sideOf, transmitter1x, clockedOf}
 use Rattle.clocks.specs.Pulses.{phaseAfter, pulseAt, pulsesBy, Divides, Side, codeOf, pulsed, edgeOf, afterEvents, ticksIn, sentIn, next, Clocks}
 use Rattle.clocks.specs.Pulses.Side.{receives, transmits}
-use Rattle.clocks.proofs.Laws.Divider.{ticksOf, pulsesOf, divided-at, sixteenth-at}
-use Rattle.clocks.proofs.Laws.Rates.{period-between}
-use Rattle.clocks.proofs.Laws.Runs.{runs-more}
 
 -- ---- a divider ----
 

@@ -10,12 +10,12 @@ use lib.ListN.{replicate}
 use Rattle.format.specs.declared.counts.Pulses.{Pulses}
 use Rattle.format.specs.declared.counts.Ticks.{Ticks}
 use Rattle.format.specs.Pick.{pick}
+use Rattle.dividers.specs.declared.divider.Divided.{Divided}
+use Rattle.dividers.specs.declared.divider.Sixteenth.{Sixteenth}
+use Rattle.dividers.specs.Divider.{dividedOf, sixteenthOf}
+use Rattle.dividers.specs.Rates.{periodOf}
 use Rattle.clocks.specs.declared.channel.ClockEvent.{ClockEvent}
 use Rattle.clocks.specs.declared.channel.Phases.{Phases}
-use Rattle.clocks.specs.declared.divider.Divided.{Divided}
-use Rattle.clocks.specs.declared.divider.Sixteenth.{Sixteenth}
-use Rattle.clocks.specs.Divider.{dividedOf, sixteenthOf}
-use Rattle.clocks.specs.Rates.{periodOf}
 use Rattle.clocks.specs.Channel.{restarted, isSixteen, tickedOf, sideOf, transmitter1x, clockedOf}
 use Rattle.clocks.specs.Pulses.{Divider, phaseAfter, pulsesBy, Divides, Clock, afterEvents, ticksIn, sentIn, Clocks}
 use Rattle.clocks.specs.Pulses.Side.{transmits}

@@ -5,13 +5,13 @@ use lib.Dec.{eqb, ltb}
 use Rattle.format.specs.declared.counts.Pulses.{Pulses}
 use Rattle.format.specs.declared.counts.Ticks.{Ticks}
 use Rattle.format.specs.Pick.{pick}
+use Rattle.dividers.specs.declared.divider.Divided.{Divided}
+use Rattle.dividers.specs.declared.divider.Sixteenth.{Sixteenth}
+use Rattle.dividers.specs.Divider.{dividedOf, sixteenthOf}
+use Rattle.dividers.specs.Rates.{periodOf}
 use Rattle.clocks.specs.declared.channel.ClockEvent.{ClockEvent}
 use Rattle.clocks.specs.declared.channel.Clocked.{Clocked}
 use Rattle.clocks.specs.declared.channel.Phases.{Phases}
-use Rattle.clocks.specs.declared.divider.Divided.{Divided}
-use Rattle.clocks.specs.declared.divider.Sixteenth.{Sixteenth}
-use Rattle.clocks.specs.Divider.{dividedOf, sixteenthOf}
-use Rattle.clocks.specs.Rates.{periodOf}
 
 -- "A CSR write restarts that channel's phases, the next pulse coming a full period later"; a chip reset too: "phase, flag, mark, last byte
 -- read and output bit 0"

@@ -7,12 +7,12 @@ use mathlib.Core.List.{List, [], _∷_}
 use lib.Dec.{eqb}
 use Rattle.format.specs.declared.counts.Ticks.{Ticks}
 use Rattle.format.specs.Digits.{bit}
+use Rattle.dividers.specs.declared.divider.Divided.{Divided}
+use Rattle.dividers.specs.Rates.{periodOf}
 use Rattle.clocks.specs.declared.channel.ClockEvent.{ClockEvent}
 use Rattle.clocks.specs.declared.channel.Clocked.{Clocked}
 use Rattle.clocks.specs.declared.channel.Phases.{Phases}
-use Rattle.clocks.specs.declared.divider.Divided.{Divided}
 use Rattle.clocks.specs.Channel.{restarted, isSixteen}
-use Rattle.clocks.specs.Rates.{periodOf}
 
 -- ---- a divider ----
 

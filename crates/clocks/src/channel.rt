@@ -1,9 +1,9 @@
 // What gives each side of a channel its pulses.
-use crate::divider::Divided;
-use crate::divider::Sixteenth;
-use crate::divider::divide;
-use crate::divider::divide_by_16;
-use crate::rates::period_of;
+use dividers::Divided;
+use dividers::Sixteenth;
+use dividers::divide;
+use dividers::divide_by_16;
+use dividers::period_of;
 use format::Pulses;
 use format::Ticks;
 ghost use mathlib.Core.Path.{_≡_};

@@ -10,8 +10,8 @@ use lib.Dec.{eqb, leb, eqb·suc-zero}
 use borrow.Author.Tests.{eq-eqb, ne-eqb, le-leb, lt-leb}
 use Rattle.format.specs.Pick.{pick}
 use Rattle.format.proofs.Laws.Pick.{pick-all, pick-yes, pick-no}
-use Rattle.clocks.proofs.Laws.Runs.{Turn, turn, first-whole, both-runs, alternates}
-use Rattle.clocks.proofs.Laws.Runs.Turn.{goes, ends}
+use Rattle.dividers.proofs.Laws.Runs.{Turn, turn, first-whole, both-runs, alternates}
+use Rattle.dividers.proofs.Laws.Runs.Turn.{goes, ends}
 use Rattle.counting.specs.declared.counting.Counted.{Counted}
 use Rattle.counting.specs.declared.counting.Timer.{Timer}
 use Rattle.counting.specs.Counting.{withCount, withReady, isTimer, countedDown, counterPulsed, timerPulsed, pulsedBy}

@@ -3,7 +3,7 @@ use Prim.Native.Nat.{ℕ, zero, suc}
 use mathlib.Core.Path.{_≡_, refl}
 use mathlib.Core.Bool.{true, false}
 use Rattle.format.specs.Pick.{pick}
-use Rattle.clocks.specs.Divider.{dividedOf, sixteenthOf}
+use Rattle.dividers.specs.Divider.{dividedOf, sixteenthOf}
 use Rattle.counting.specs.declared.counting.Timer.{Timer}
 use Rattle.counting.specs.Counting.{counterPulsed, timerPulsed, pulsedBy}
 use Rattle.timer.specs.Timer.{tickedBy, edgedBy, transmittedBy, startedOf, modeChanged}

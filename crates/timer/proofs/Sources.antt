@@ -13,10 +13,10 @@ use Rattle.format.specs.declared.counts.Ticks.{Ticks}
 use Rattle.format.specs.Digits.{bit}
 use Rattle.format.specs.Pick.{pick}
 use Rattle.format.proofs.Laws.Pick.{pick-all}
-use Rattle.clocks.specs.declared.divider.Divided.{Divided}
-use Rattle.clocks.specs.declared.divider.Sixteenth.{Sixteenth}
-use Rattle.clocks.specs.Divider.{dividedOf, sixteenthOf}
-use Rattle.clocks.proofs.Laws.Divider.{ticksOf, pulsesOf, divided-at, sixteenth-at}
+use Rattle.dividers.specs.declared.divider.Divided.{Divided}
+use Rattle.dividers.specs.declared.divider.Sixteenth.{Sixteenth}
+use Rattle.dividers.specs.Divider.{dividedOf, sixteenthOf}
+use Rattle.dividers.proofs.Laws.Divider.{ticksOf, pulsesOf, divided-at, sixteenth-at}
 use Rattle.counting.specs.declared.counting.Counted.{Counted}
 use Rattle.counting.specs.declared.counting.Timer.{Timer}
 use Rattle.counting.specs.Counting.{withPhases, modeOf, isTimer, countedDown, tickPulses, edgePulses, transmitterPulses, counterPulsed, timerPulsed, pulsedBy}

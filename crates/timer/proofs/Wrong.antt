@@ -7,7 +7,7 @@ use mathlib.Core.List.{[], _∷_}
 use native.Mathlib.Omega.{arith}
 use lib.Dec.{eqb}
 use Rattle.format.specs.Pick.{pick}
-use Rattle.clocks.specs.Divider.{dividedOf, sixteenthOf}
+use Rattle.dividers.specs.Divider.{dividedOf, sixteenthOf}
 use Rattle.counting.specs.declared.counting.Counted.{Counted}
 use Rattle.counting.specs.declared.counting.Timer.{Timer}
 use Rattle.counting.specs.Counting.{freshTimer, withCount, withRunning, withReady, withPhases, modeOf, isTimer, countedDown, counterPulsed, timerPulsed, pulsedBy, withPreload}

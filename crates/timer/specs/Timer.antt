@@ -3,7 +3,7 @@ use Prim.Native.Nat.{ℕ}
 use mathlib.Core.Bool.{Bool, true, false}
 use lib.Dec.{eqb}
 use Rattle.format.specs.Pick.{pick}
-use Rattle.clocks.specs.Divider.{dividedOf, sixteenthOf}
+use Rattle.dividers.specs.Divider.{dividedOf, sixteenthOf}
 use Rattle.counting.specs.declared.counting.Counted.{Counted}
 use Rattle.counting.specs.declared.counting.Timer.{Timer}
 use Rattle.counting.specs.Counting.{withCount, withRunning, withReady, withPhases, modeOf, isTimer, tickPulses, edgePulses, transmitterPulses, pulsedBy}

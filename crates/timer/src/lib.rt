@@ -1,7 +1,7 @@
 // What happens to the counter/timer of the MC68681.
 //
-// It stands in a crate of its own, above the clocks whose dividers it uses: of a channel's clocks it knows
-// no more than the pulses of their 1X transmitter clocks. specs/ has its definitions under the same name.
+// It stands in a crate of its own, above the dividers that it uses: of a channel's clocks it knows no more
+// than the pulses of their 1X transmitter clocks. specs/ has its definitions under the same name.
 mod timer;
 
 pub use timer::change_mode;

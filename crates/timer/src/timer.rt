@@ -1,7 +1,5 @@
 // What happens to the counter/timer: a tick, an edge, a 1X transmitter clock; a start, a stop, another
 // mode.
-use clocks::divide;
-use clocks::divide_by_16;
 use counting::Counted;
 use counting::Timer;
 use counting::edge_pulses;
@@ -10,6 +8,8 @@ use counting::mode_of;
 use counting::pulse_by;
 use counting::tick_pulses;
 use counting::transmitter_pulses;
+use dividers::divide;
+use dividers::divide_by_16;
 use format::Ticks;
 ghost use mathlib.Core.Path.{_≡_};
 ghost use Rattle.timer.specs.Timer.{tickedBy, edgedBy, transmittedBy, startedOf, stoppedOf, modeChanged};

@@ -1,39 +1,24 @@
 -- Every event keeps a channel's phases in their ranges, from any that are, reached or not: a divider's next phase is below its period, and no
 -- other rule moves one. Assumes nothing.
-use Prim.Native.Nat.{ℕ, _+_, _≤_}
+use Prim.Native.Nat.{ℕ, _≤_}
 use mathlib.Core.Path.{_≡_, refl}
 use mathlib.Core.Bool.{Bool, true, and-eq-true-iff}
-use native.Mathlib.Omega.{arith}
 use lib.Dec.{eqb, ltb, leb}
 use borrow.Author.Tests.{ltb-true, leb-true, le-leb}
 use Rattle.format.specs.declared.counts.Pulses.{Pulses}
 use Rattle.format.specs.declared.counts.Ticks.{Ticks}
 use Rattle.format.proofs.Laws.Pick.{pick-all, pick-known}
+use Rattle.dividers.specs.declared.divider.Divided.{Divided}
+use Rattle.dividers.specs.declared.divider.Sixteenth.{Sixteenth}
+use Rattle.dividers.specs.Rates.{periodOf}
+use Rattle.dividers.proofs.Laws.Ranges.{divided-most, sixteenth-most}
+use Rattle.dividers.proofs.Laws.Rates.{period-between}
 use Rattle.clocks.specs.declared.channel.ClockEvent.{ClockEvent}
 use Rattle.clocks.specs.declared.channel.Phases.{Phases}
-use Rattle.clocks.specs.declared.divider.Divided.{Divided}
-use Rattle.clocks.specs.declared.divider.Sixteenth.{Sixteenth}
-use Rattle.clocks.specs.Divider.{dividedOf, sixteenthOf}
-use Rattle.clocks.specs.Rates.{periodOf}
 use Rattle.clocks.specs.Channel.{restarted, restartedOnChange, isSixteen, tickedOf, sideOf, transmitter1x, clockedOf}
 use Rattle.clocks.specs.Sound.{phasesInRange, KeepsPhases}
-use Rattle.clocks.proofs.Laws.Rates.{period-between}
 
 -- ---- a channel's phases ----
-
-pub divided-most : (phase period : Ticks) (k : ℕ) → period .0 ≤ k + 1 → dividedOf phase period .phase .0 ≤ k
-unfolding dividedOf
-divided-most phase period k h =
-    pick-known (λ (d : Divided). d .phase .0 ≤ k) (ltb (phase .0 + 1) (period .0)) _ _
-    (λ (e : ltb (phase .0 + 1) (period .0) ≡ true). omega (arith, ltb-true (phase .0 + 1) (period .0) e))
-    (omega arith)
-
-pub sixteenth-most : (phase : Pulses) → sixteenthOf phase .phase .0 ≤ 15
-unfolding sixteenthOf
-sixteenth-most phase =
-    pick-known (λ (d : Sixteenth). d .phase .0 ≤ 15) (ltb (phase .0 + 1) 16) _ _
-    (λ (e : ltb (phase .0 + 1) 16 ≡ true). omega (arith, ltb-true (phase .0 + 1) 16 e))
-    (omega arith)
 
 side-most : (phase : Ticks) (second : Bool) (code : ℕ) (b : ClockEvent) (edge : Bool) → phase .0 ≤ 4607 → sideOf phase second code b edge .phase .0 ≤ 4607
 unfolding sideOf tickedOf

@@ -7,7 +7,7 @@ use native.Mathlib.Omega.{arith}
 use lib.Dec.{eqb, leb}
 use borrow.Author.Tests.{leb-true, le-leb}
 use Rattle.format.proofs.Laws.Pick.{pick-all}
-use Rattle.clocks.proofs.Laws.Ranges.{divided-most, sixteenth-most}
+use Rattle.dividers.proofs.Laws.Ranges.{divided-most, sixteenth-most}
 use Rattle.counting.specs.declared.counting.Counted.{Counted}
 use Rattle.counting.specs.declared.counting.Timer.{Timer}
 use Rattle.counting.specs.Counting.{freshTimer, modeOf, isTimer, countedDown, counterPulsed, timerPulsed, pulsedBy}

@@ -1,7 +1,7 @@
 // "Ticks per 16X pulse, codes 0 to 12"
 use format::Ticks;
 ghost use mathlib.Core.Path.{_≡_};
-ghost use Rattle.clocks.specs.Rates.{periodOf};
+ghost use Rattle.dividers.specs.Rates.{periodOf};
 
 // "ACR bit 7 = 0"
 const FIRST_SET: [u64; 13] = [

@@ -3,10 +3,10 @@
 use native.Mathlib.Omega.{arith}
 use borrow.Author.Needs.{needs}
 use Rattle.format.proofs.Laws.{steps}
-use Rattle.clocks.specs.Rates.{periodOf}
-use Rattle.clocks.proofs.Laws.Rates.{no-period}
-use Rattle.clocks.proofs.rates.period_of.Statement.{statement}
-use Rattle.clocks.proofs.rates.period_of.Tie as tie
+use Rattle.dividers.specs.Rates.{periodOf}
+use Rattle.dividers.proofs.Laws.Rates.{no-period}
+use Rattle.dividers.proofs.rates.period_of.Statement.{statement}
+use Rattle.dividers.proofs.rates.period_of.Tie as tie
 
 mul-t7 : tie.Need-mul-t7
 mul-t7 c = search needs
