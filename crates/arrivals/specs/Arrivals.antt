@@ -8,9 +8,9 @@ use Rattle.character.specs.Character.{noMarks, orMarks}
 use Rattle.assembly.specs.declared.state.Sampler.{Sampler}
 use Rattle.assembly.specs.declared.state.Setting.{Setting}
 use Rattle.assembly.specs.State.{hunting}
-use Rattle.sampler.specs.declared.sampler.Came.{Came}
-use Rattle.sampler.specs.declared.sampler.Came.the-variants.{NoCharacter, Arrival}
-use Rattle.sampler.specs.declared.sampler.Sampled.{Sampled}
+use Rattle.hunting.specs.declared.hunting.Came.{Came}
+use Rattle.hunting.specs.declared.hunting.Came.the-variants.{NoCharacter, Arrival}
+use Rattle.hunting.specs.declared.hunting.Sampled.{Sampled}
 use Rattle.sampler.specs.Sampler.{sampleOf}
 use Rattle.queue.specs.declared.queue.Queue.{Queue}
 use Rattle.queue.specs.Queue.{emptyQueue, isEmptyOf, oldestOf, waitsOf, putOf, withoutWaitingOf}

@@ -10,18 +10,19 @@ use Rattle.format.specs.Format.{formatOf}
 use Rattle.format.specs.Pick.{pick}
 use Rattle.character.specs.declared.character.Character.{Character}
 use Rattle.assembly.specs.State.{hunting, gapOf}
-use Rattle.sampler.specs.Sampler.{lowAt, hunted, sampleOf}
+use Rattle.hunting.specs.Hunting.{lowAt, hunted}
+use Rattle.sampler.specs.Sampler.{sampleOf}
 use Rattle.queue.specs.Queue.{waits, heldOf, waitsOf}
 use Rattle.arrivals.specs.Arrivals.{withSampler, withQueue}
 use Rattle.transmitter.specs.Transmitter.{afterInput}
 use Rattle.clocks.specs.Channel as Channel
+use Rattle.counting.specs.Counting.{pulsedBy}
 use Rattle.bytes.specs.Bytes.{hasBit}
 use Rattle.inputs.specs.Inputs.{movedOf, pinsOfA}
 use Rattle.side.specs.declared.side.Side.{Side}
 use Rattle.side_clocks.specs.Clocking.{transmitterPulsed, lineOf, sideClocked}
 use Rattle.side.specs.Side.{freshSide, withClocks, withEnabled}
 use Rattle.commands.specs.Commands.{transmitterEffect, receiverEffect, transmitterEnabling, receiverEnabling, sideCommanded, commandFeed}
-use Rattle.counting.specs.Counting.{pulsedBy}
 use Rattle.front_clocks.specs.Clocking.{countedOf, clockedWith, clockedOf, levelsMoved}
 use Rattle.front.specs.Front.{frontAt, withSides}
 use Rattle.writes.specs.Writes.{sideWritten, registerWritten}

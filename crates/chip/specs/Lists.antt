@@ -12,9 +12,9 @@ use Rattle.character.specs.declared.character.Marks.{Marks}
 use Rattle.character.specs.Character.{noMarks, orMarks, unmarkedOf}
 use Rattle.assembly.specs.declared.state.Sampler.{Sampler}
 use Rattle.assembly.specs.State.{hunting}
-use Rattle.sampler.specs.declared.sampler.Came.{Came}
-use Rattle.sampler.specs.declared.sampler.Came.the-variants.{NoCharacter, Arrival}
-use Rattle.sampler.specs.declared.sampler.Sampled.{Sampled}
+use Rattle.hunting.specs.declared.hunting.Came.{Came}
+use Rattle.hunting.specs.declared.hunting.Came.the-variants.{NoCharacter, Arrival}
+use Rattle.hunting.specs.declared.hunting.Sampled.{Sampled}
 use Rattle.sampler.specs.Sampler.{sampleOf}
 use Rattle.sampler.specs.Sound.{samplerInRange}
 use Rattle.queue.specs.Queue.{put, waits, withoutWaiting, heldOf}

@@ -12,9 +12,9 @@ use Rattle.format.specs.Pick.{pick}
 use Rattle.format.proofs.Laws.Pick.{pick-all}
 use Rattle.character.specs.declared.character.Character.{Character}
 use Rattle.character.specs.Character.{noMarks, unmarkedOf}
-use Rattle.sampler.specs.declared.sampler.Came.{Came}
-use Rattle.sampler.specs.declared.sampler.Came.the-variants.{NoCharacter, Arrival}
-use Rattle.sampler.specs.declared.sampler.Sampled.{Sampled}
+use Rattle.hunting.specs.declared.hunting.Came.{Came}
+use Rattle.hunting.specs.declared.hunting.Came.the-variants.{NoCharacter, Arrival}
+use Rattle.hunting.specs.declared.hunting.Sampled.{Sampled}
 use Rattle.sampler.specs.Lines.{Line, hears, listOf, arrivals}
 use Rattle.sampler.specs.Sampler.{sampleOf}
 use Rattle.sampler.proofs.Laws.Room.{most-four, grown, Roomy, room-sample}

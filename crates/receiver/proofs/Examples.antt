@@ -15,8 +15,9 @@ use Rattle.character.specs.declared.character.Character.{Character}
 use Rattle.character.specs.Character.{noMarks}
 use Rattle.assembly.specs.Assembly.{dataWidthOf, samplesOf, withSample, characterOf, parityWrongOf}
 use Rattle.assembly.specs.State.{gapOf, afterStop}
+use Rattle.hunting.specs.Hunting.{lowAt, hunted, lookedAgain}
 use Rattle.sampler.specs.Lines.{at16}
-use Rattle.sampler.specs.Sampler.{lowAt, hunted, lookedAgain, finished, sampled, assembled, sampleOf}
+use Rattle.sampler.specs.Sampler.{finished, sampled, assembled, sampleOf}
 use Rattle.queue.specs.Queue.{heldOf, waitsOf, putOf, withoutWaitingOf, tookOf}
 use Rattle.arrivals.specs.declared.arrivals.Receiver.{Receiver}
 use Rattle.arrivals.specs.Arrivals.{freshReceiver, oldestMarks, startedOf, enteredOf, arrivedOf, pulsedOf}

@@ -19,11 +19,12 @@ use Rattle.character.specs.Character.{clean}
 use Rattle.assembly.specs.declared.state.Sampler.{Sampler}
 use Rattle.assembly.specs.declared.state.Setting.{Setting}
 use Rattle.assembly.specs.State.{hunting}
-use Rattle.sampler.specs.declared.sampler.Came.{Came}
-use Rattle.sampler.specs.declared.sampler.Came.the-variants.{NoCharacter, Arrival}
-use Rattle.sampler.specs.declared.sampler.Sampled.{Sampled}
+use Rattle.hunting.specs.declared.hunting.Came.{Came}
+use Rattle.hunting.specs.declared.hunting.Came.the-variants.{NoCharacter, Arrival}
+use Rattle.hunting.specs.declared.hunting.Sampled.{Sampled}
+use Rattle.hunting.specs.Hunting.{hunted}
 use Rattle.sampler.specs.Lines.{at16, Line, hears, listOf, afterLines, arrivals}
-use Rattle.sampler.specs.Sampler.{hunted, sampleOf}
+use Rattle.sampler.specs.Sampler.{sampleOf}
 use Rattle.sampler.proofs.Laws.Heard.{Said, changing, begun, coming, heard, reached, Ran, hears-frame}
 use Rattle.sampler.proofs.Laws.Heard.Said.{changes, began, came}
 use Rattle.queue.specs.declared.queue.Queue.{Queue}

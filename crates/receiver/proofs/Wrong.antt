@@ -17,8 +17,9 @@ use Rattle.character.specs.declared.character.Marks.{Marks}
 use Rattle.character.specs.Character.{noCharacter, noMarks}
 use Rattle.assembly.specs.Assembly.{dataWidthOf, samplesOf, withSample, characterOf}
 use Rattle.assembly.specs.State.{gapOf, afterStop, hunting, starting}
+use Rattle.hunting.specs.Hunting.{waited, lowAt, hunted, lookedAgain}
 use Rattle.sampler.specs.Lines.{at16, hears}
-use Rattle.sampler.specs.Sampler.{waited, lowAt, hunted, lookedAgain, finished, sampled, assembled, sampleOf}
+use Rattle.sampler.specs.Sampler.{finished, sampled, assembled, sampleOf}
 use Rattle.queue.specs.declared.queue.Queue.{Queue}
 use Rattle.queue.specs.Queue.{heldOf, emptyQueue, waitsOf, putOf, withoutWaitingOf, tookOf}
 use Rattle.arrivals.specs.declared.arrivals.Receiver.{Receiver}

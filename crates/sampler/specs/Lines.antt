@@ -7,10 +7,11 @@ use Rattle.character.specs.declared.character.Character.{Character}
 use Rattle.assembly.specs.declared.state.Sampler.{Sampler}
 use Rattle.assembly.specs.declared.state.Setting.{Setting}
 use Rattle.assembly.specs.State.{hunting}
-use Rattle.sampler.specs.declared.sampler.Came.{Came}
-use Rattle.sampler.specs.declared.sampler.Came.the-variants.{NoCharacter, Arrival}
-use Rattle.sampler.specs.declared.sampler.Sampled.{Sampled}
-use Rattle.sampler.specs.Sampler.{still, sampleOf}
+use Rattle.hunting.specs.declared.hunting.Came.{Came}
+use Rattle.hunting.specs.declared.hunting.Came.the-variants.{NoCharacter, Arrival}
+use Rattle.hunting.specs.declared.hunting.Sampled.{Sampled}
+use Rattle.hunting.specs.Hunting.{still}
+use Rattle.sampler.specs.Sampler.{sampleOf}
 
 -- a format with 16X pulses
 abbrev pub at16 : Format → Setting

@@ -5,6 +5,4 @@
 // its definitions under the same name.
 mod sampler;
 
-pub use sampler::Came;
-pub use sampler::Sampled;
 pub use sampler::sample;

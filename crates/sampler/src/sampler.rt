@@ -11,92 +11,19 @@ use assembly::assembling_at;
 use assembly::character_of;
 use assembly::empty_at;
 use assembly::gap;
-use assembly::hunting_after;
 use assembly::samples_before_stop;
-use assembly::starting_at;
-use character::Character;
 use character::break_character;
 use format::Bits;
 use format::Pulses;
+use hunting::Came;
+use hunting::Sampled;
+use hunting::follow_low_stop;
+use hunting::hunt;
+use hunting::look_again;
+use hunting::quiet;
+use hunting::wait_for_end;
 ghost use mathlib.Core.Path.{_≡_};
-ghost use Rattle.sampler.specs.Sampler.{still, confirmed, lowAt, hunted, lookedAgain, arrived, finished, sampled, assembled, followed, ended, waited, sampleOf};
-
-// A character that arrived, if any.
-pub enum Came {
-    NoCharacter,
-    Arrival(Character),
-}
-
-// The answer to a pulse.
-pub struct Sampled {
-    pub next: Sampler,
-    // a start was confirmed
-    pub started: bool,
-    pub came: Came,
-    // break change is set
-    pub change: bool,
-}
-
-// No start, no character, no break change.
-fn quiet(next: Sampler) -> Sampled
-    ensures { λ r. ⌜ r ≡ still next ⌝ }
-{
-    Sampled {
-        next: next,
-        started: false,
-        came: Came::NoCharacter,
-        change: false,
-    }
-}
-
-// A confirmed start.
-fn confirm_start(setting: Setting) -> Sampled
-    ensures { λ r. ⌜ r ≡ confirmed setting ⌝ }
-{
-    Sampled {
-        next: assembling_at(setting, gap(setting.sixteen), Bits(0), 0),
-        started: true,
-        came: Came::NoCharacter,
-        change: false,
-    }
-}
-
-// The low pulse p: at 16X "at p+8 it must still be low", at 1X "a start, confirmed at once".
-fn low_at(setting: Setting) -> Sampled
-    ensures { λ r. ⌜ r ≡ lowAt setting ⌝ }
-{
-    if setting.sixteen {
-        return quiet(starting_at(setting, Pulses(7)));
-    }
-    confirm_start(setting)
-}
-
-// "after a high, a low at pulse p"
-fn hunt(sampler: Sampler, level: bool, setting: Setting) -> Sampled
-    ensures { λ r. ⌜ r ≡ hunted sampler level setting ⌝ }
-{
-    if level {
-        return quiet(hunting_after(true));
-    }
-    if sampler.high {
-        return low_at(setting);
-    }
-    quiet(hunting_after(false))
-}
-
-// "at p+8 it must still be low, else hunt again"
-fn look_again(sampler: Sampler, level: bool) -> Sampled
-    ensures { λ r. ⌜ r ≡ lookedAgain sampler level ⌝ }
-{
-    if sampler.left.0 == 0 {
-        if level {
-            let again = hunting_after(true);
-            return quiet(again);
-        }
-        return confirm_start(sampler.setting);
-    }
-    quiet(starting_at(sampler.setting, Pulses(sampler.left.0 - 1)))
-}
+ghost use Rattle.sampler.specs.Sampler.{arrived, finished, sampled, assembled, sampleOf};
 
 // "the character arrives at the first stop sample"
 fn arrive(setting: Setting, value: u16, stop: bool) -> Sampled
@@ -160,47 +87,6 @@ fn assemble(sampler: Sampler, level: bool) -> Sampled
         sampler.taken,
         sampler.value,
     ))
-}
-
-// "if low at the 8 next pulses, the last of them counts as a new low at p"
-fn follow_low_stop(sampler: Sampler, level: bool, setting: Setting) -> Sampled
-    ensures { λ r. ⌜ r ≡ followed sampler level setting ⌝ }
-{
-    if level {
-        return quiet(hunting_after(true));
-    }
-    if sampler.left.0 == 0 {
-        return low_at(setting);
-    }
-    quiet(empty_at(AFTER_LOW_STOP, false, Pulses(sampler.left.0 - 1)))
-}
-
-// A break's end: "then break change is set again".
-fn end_break() -> Sampled
-    ensures { λ r. ⌜ r ≡ ended ⌝ }
-{
-    Sampled {
-        next: hunting_after(true),
-        started: false,
-        came: Came::NoCharacter,
-        change: true,
-    }
-}
-
-// "hunting waits for 8 high pulses in a row"; at 1X "one high ends a break".
-fn wait_for_end(sampler: Sampler, level: bool, setting: Setting) -> Sampled
-    ensures { λ r. ⌜ r ≡ waited sampler level setting ⌝ }
-{
-    if level {
-        if setting.sixteen {
-            if sampler.left.0 == 0 {
-                return end_break();
-            }
-            return quiet(empty_at(IN_BREAK, false, Pulses(sampler.left.0 - 1)));
-        }
-        return end_break();
-    }
-    quiet(empty_at(IN_BREAK, false, Pulses(7)))
 }
 
 // One pulse of the receiver's clock: the level of the line, and the setting as it stands.

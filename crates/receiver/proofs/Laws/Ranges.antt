@@ -7,9 +7,9 @@ use native.Mathlib.Omega.{arith}
 use borrow.Author.Tests.{leb-true, le-leb}
 use Rattle.format.proofs.Laws.Pick.{pick-all}
 use Rattle.assembly.specs.declared.state.Setting.{Setting}
-use Rattle.sampler.specs.declared.sampler.Came.{Came}
-use Rattle.sampler.specs.declared.sampler.Came.the-variants.{NoCharacter, Arrival}
-use Rattle.sampler.specs.declared.sampler.Sampled.{Sampled}
+use Rattle.hunting.specs.declared.hunting.Came.{Came}
+use Rattle.hunting.specs.declared.hunting.Came.the-variants.{NoCharacter, Arrival}
+use Rattle.hunting.specs.declared.hunting.Sampled.{Sampled}
 use Rattle.sampler.specs.Sampler.{sampleOf}
 use Rattle.sampler.specs.Sound.{settingInRange, samplerInRange}
 use Rattle.sampler.proofs.Laws.Ranges.{sample-keeps, hunting-keeps}

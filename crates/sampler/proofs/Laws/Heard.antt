@@ -22,9 +22,10 @@ use Rattle.assembly.specs.declared.state.Setting.{Setting}
 use Rattle.assembly.specs.Assembly.{samplesOf, withSample, characterOf}
 use Rattle.assembly.specs.State.{hunting, assembling, gapOf, afterStop}
 use Rattle.assembly.proofs.Laws.Assembly.{samples-are, with-sample-small, with-sample-adds, sampled-clean}
-use Rattle.sampler.specs.declared.sampler.Came.{Came}
-use Rattle.sampler.specs.declared.sampler.Came.the-variants.{NoCharacter, Arrival}
-use Rattle.sampler.specs.Sampler.{lowAt, hunted, lookedAgain, finished, sampled, assembled, sampleOf}
+use Rattle.hunting.specs.declared.hunting.Came.{Came}
+use Rattle.hunting.specs.declared.hunting.Came.the-variants.{NoCharacter, Arrival}
+use Rattle.hunting.specs.Hunting.{lowAt, hunted, lookedAgain}
+use Rattle.sampler.specs.Sampler.{finished, sampled, assembled, sampleOf}
 use Rattle.sampler.specs.Lines.{at16}
 
 -- what a sampler says, in order: break change, a confirmed start, or an arrival

@@ -18,8 +18,9 @@ use Rattle.assembly.specs.declared.state.Setting.{Setting}
 use Rattle.assembly.specs.Assembly.{samplesOf, withSample}
 use Rattle.assembly.specs.State.{emptyAt, hunting, starting, assembling, gapOf, afterStop}
 use Rattle.assembly.proofs.Laws.Assembly.{samples-most, with-sample-small}
-use Rattle.sampler.specs.declared.sampler.Sampled.{Sampled}
-use Rattle.sampler.specs.Sampler.{confirmed, lowAt, hunted, lookedAgain, finished, sampled, assembled, followed, waited, sampleOf}
+use Rattle.hunting.specs.declared.hunting.Sampled.{Sampled}
+use Rattle.hunting.specs.Hunting.{confirmed, lowAt, hunted, lookedAgain, followed, waited}
+use Rattle.sampler.specs.Sampler.{finished, sampled, assembled, sampleOf}
 use Rattle.sampler.specs.Sound.{settingInRange, samplerInRange}
 
 -- the ranges as inequalities

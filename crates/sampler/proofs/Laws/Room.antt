@@ -10,10 +10,11 @@ use Rattle.assembly.specs.declared.state.Sampler.{Sampler}
 use Rattle.assembly.specs.declared.state.Setting.{Setting}
 use Rattle.assembly.specs.Assembly.{samplesOf}
 use Rattle.assembly.specs.State.{afterStop}
-use Rattle.sampler.specs.declared.sampler.Came.{Came}
-use Rattle.sampler.specs.declared.sampler.Came.the-variants.{NoCharacter, Arrival}
-use Rattle.sampler.specs.declared.sampler.Sampled.{Sampled}
-use Rattle.sampler.specs.Sampler.{confirmed, lowAt, hunted, lookedAgain, arrived, finished, sampled, assembled, followed, waited, sampleOf}
+use Rattle.hunting.specs.declared.hunting.Came.{Came}
+use Rattle.hunting.specs.declared.hunting.Came.the-variants.{NoCharacter, Arrival}
+use Rattle.hunting.specs.declared.hunting.Sampled.{Sampled}
+use Rattle.hunting.specs.Hunting.{confirmed, lowAt, hunted, lookedAgain, followed, waited}
+use Rattle.sampler.specs.Sampler.{arrived, finished, sampled, assembled, sampleOf}
 
 -- three while a confirmed start is under way, else four
 abbrev pub most : Sampler → ℕ

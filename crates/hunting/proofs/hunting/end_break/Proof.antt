@@ -1,7 +1,7 @@
 -- `end_break` meets its contract: the sampler is the callee's. Assumes nothing.
 use borrow.Author.Needs.{needs}
-use Rattle.sampler.proofs.sampler.end_break.Statement.{statement}
-use Rattle.sampler.proofs.sampler.end_break.Tie as tie
+use Rattle.hunting.proofs.hunting.end_break.Statement.{statement}
+use Rattle.hunting.proofs.hunting.end_break.Tie as tie
 
 hunting-after-requires : tie.Need-hunting-after-requires
 hunting-after-requires c κs = search needs

@@ -1,7 +1,7 @@
 -- `confirm_start` meets its contract: the gap and the sampler are the callees'. Assumes nothing.
 use borrow.Author.Needs.{needs}
-use Rattle.sampler.proofs.sampler.confirm_start.Statement.{statement}
-use Rattle.sampler.proofs.sampler.confirm_start.Tie as tie
+use Rattle.hunting.proofs.hunting.confirm_start.Statement.{statement}
+use Rattle.hunting.proofs.hunting.confirm_start.Tie as tie
 
 gap-requires : tie.Need-gap-requires
 gap-requires c κs = search needs

@@ -1,9 +1,9 @@
 -- `follow_low_stop` meets its contract: each way through the tests is the definition's, with the callee's answer. Assumes nothing.
 use borrow.Author.Needs.{needs}
 use Rattle.format.proofs.Laws.{steps}
-use Rattle.sampler.specs.Sampler.{followed}
-use Rattle.sampler.proofs.sampler.follow_low_stop.Statement.{statement}
-use Rattle.sampler.proofs.sampler.follow_low_stop.Tie as tie
+use Rattle.hunting.specs.Hunting.{followed}
+use Rattle.hunting.proofs.hunting.follow_low_stop.Statement.{statement}
+use Rattle.hunting.proofs.hunting.follow_low_stop.Tie as tie
 
 hunting-after-requires : tie.Need-hunting-after-requires
 hunting-after-requires c κs = search needs

@@ -1,9 +1,9 @@
 -- `wait_for_end` meets its contract: each way through the tests is the definition's, with the callee's answer. Assumes nothing.
 use borrow.Author.Needs.{needs}
 use Rattle.format.proofs.Laws.{steps}
-use Rattle.sampler.specs.Sampler.{waited}
-use Rattle.sampler.proofs.sampler.wait_for_end.Statement.{statement}
-use Rattle.sampler.proofs.sampler.wait_for_end.Tie as tie
+use Rattle.hunting.specs.Hunting.{waited}
+use Rattle.hunting.proofs.hunting.wait_for_end.Statement.{statement}
+use Rattle.hunting.proofs.hunting.wait_for_end.Tie as tie
 
 end-break-requires : tie.Need-end-break-requires
 end-break-requires c κs = search needs

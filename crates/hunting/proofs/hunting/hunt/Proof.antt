@@ -1,9 +1,9 @@
 -- `hunt` meets its contract: each way through the tests is the definition's, with the callee's answer. Assumes nothing.
 use borrow.Author.Needs.{needs}
 use Rattle.format.proofs.Laws.{steps}
-use Rattle.sampler.specs.Sampler.{hunted}
-use Rattle.sampler.proofs.sampler.hunt.Statement.{statement}
-use Rattle.sampler.proofs.sampler.hunt.Tie as tie
+use Rattle.hunting.specs.Hunting.{hunted}
+use Rattle.hunting.proofs.hunting.hunt.Statement.{statement}
+use Rattle.hunting.proofs.hunting.hunt.Tie as tie
 
 hunting-after-requires : tie.Need-hunting-after-requires
 hunting-after-requires c κs = search needs

@@ -1,9 +1,9 @@
 -- `look_again` meets its contract: each way through the tests is the definition's, with the callee's answer. Assumes nothing.
 use borrow.Author.Needs.{needs}
 use Rattle.format.proofs.Laws.{steps}
-use Rattle.sampler.specs.Sampler.{lookedAgain}
-use Rattle.sampler.proofs.sampler.look_again.Statement.{statement}
-use Rattle.sampler.proofs.sampler.look_again.Tie as tie
+use Rattle.hunting.specs.Hunting.{lookedAgain}
+use Rattle.hunting.proofs.hunting.look_again.Statement.{statement}
+use Rattle.hunting.proofs.hunting.look_again.Tie as tie
 
 hunting-after-requires : tie.Need-hunting-after-requires
 hunting-after-requires c κs = search needs

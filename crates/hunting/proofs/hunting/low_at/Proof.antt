@@ -1,9 +1,9 @@
 -- `low_at` meets its contract: 16X or 1X, each the callee's answer. Assumes nothing.
 use borrow.Author.Needs.{needs}
 use Rattle.format.proofs.Laws.{steps}
-use Rattle.sampler.specs.Sampler.{lowAt}
-use Rattle.sampler.proofs.sampler.low_at.Statement.{statement}
-use Rattle.sampler.proofs.sampler.low_at.Tie as tie
+use Rattle.hunting.specs.Hunting.{lowAt}
+use Rattle.hunting.proofs.hunting.low_at.Statement.{statement}
+use Rattle.hunting.proofs.hunting.low_at.Tie as tie
 
 starting-at-requires : tie.Need-starting-at-requires
 starting-at-requires c κs = search needs

@@ -1,0 +1,1 @@
+-- No laws stand here: those of the sampler stand in the crate above.

@@ -1,0 +1,2 @@
+-- What a reader must believe of the sampler outside a character.
+pub mod Hunting
