@@ -85,10 +85,10 @@ pub fn write_mode(side: Side, byte: u8) -> Side
 pub fn write_csr(side: Side, byte: u8) -> Side
     ensures { λ r. ⌜ r ≡ csrWritten side byte ⌝ }
 {
-    let phases = restart();
+    let restarted = restart();
     let mut s = side;
     s.csr = byte;
-    s.phases = phases;
+    s.phases = restarted;
     s
 }
 
