@@ -1,4 +1,5 @@
 -- `event_data` meets its contract: one arm a register, each the definition's. Assumes nothing.
+use Prim.{tt}
 use borrow.Author.Needs.{needs}
 use Rattle.answers.proofs.answers.event_data.Statement.{statement}
 use Rattle.answers.proofs.answers.event_data.Tie as tie
@@ -12,7 +13,7 @@ enum-known-event : tie.Need-enum-known-event
 enum-known-event c = search needs
 
 register-data-requires : tie.Need-register-data-requires
-register-data-requires c κs = search needs
+register-data-requires c κs = tt
 
 enum-known-event-2 : tie.Need-enum-known-event-2
 enum-known-event-2 c = search needs

@@ -1,11 +1,11 @@
 -- `is_asserted` meets its contract: it is what its callees answer. Assumes nothing.
-use borrow.Author.Needs.{needs}
+use Prim.{tt}
 use Rattle.answers.proofs.answers.is_asserted.Statement.{statement}
 use Rattle.answers.proofs.answers.is_asserted.Tie as tie
 use Rattle.answers.specs.Answers.{assertedOf}
 
 isr-of-requires : tie.Need-isr-of-requires
-isr-of-requires c κs = search needs
+isr-of-requires c κs = tt
 
 returns : tie.Need-returns
 unfolding assertedOf

@@ -1,14 +1,14 @@
 -- `isr_of` meets its contract: it is what its callees answer. Assumes nothing.
-use borrow.Author.Needs.{needs}
+use Prim.{tt}
 use Rattle.answers.proofs.answers.isr_of.Statement.{statement}
 use Rattle.answers.proofs.answers.isr_of.Tie as tie
 use Rattle.answers.specs.Answers.{isrOf}
 
 has-chosen-change-requires : tie.Need-has-chosen-change-requires
-has-chosen-change-requires c κs = search needs
+has-chosen-change-requires c κs = tt
 
 interrupt-status-requires : tie.Need-interrupt-status-requires
-interrupt-status-requires c κs = search needs
+interrupt-status-requires c κs = tt
 
 returns : tie.Need-returns
 unfolding isrOf

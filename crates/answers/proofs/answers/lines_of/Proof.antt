@@ -1,20 +1,20 @@
 -- `lines_of` meets its contract: it is what its callees answer. Assumes nothing.
-use borrow.Author.Needs.{needs}
+use Prim.{tt}
 use Rattle.answers.proofs.answers.lines_of.Statement.{statement}
 use Rattle.answers.proofs.answers.lines_of.Tie as tie
 use Rattle.answers.specs.Answers.{linesOf}
 
 isr-of-requires : tie.Need-isr-of-requires
-isr-of-requires c κs = search needs
+isr-of-requires c κs = tt
 
 is-asserted-requires : tie.Need-is-asserted-requires
-is-asserted-requires c κs = search needs
+is-asserted-requires c κs = tt
 
 timer-level-requires : tie.Need-timer-level-requires
-timer-level-requires c κs = search needs
+timer-level-requires c κs = tt
 
 op-levels-requires : tie.Need-op-levels-requires
-op-levels-requires c κs = search needs
+op-levels-requires c κs = tt
 
 returns : tie.Need-returns
 unfolding linesOf

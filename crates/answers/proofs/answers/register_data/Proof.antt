@@ -1,5 +1,5 @@
 -- `register_data` meets its contract: one arm a register, each the definition's. Assumes nothing.
-use borrow.Author.Needs.{needs}
+use Prim.{tt}
 use Rattle.answers.proofs.answers.register_data.Statement.{statement}
 use Rattle.answers.proofs.answers.register_data.Tie as tie
 use Rattle.format.proofs.Laws.{steps}
@@ -7,10 +7,10 @@ use Rattle.format.specs.Pick.{pick}
 use Rattle.answers.specs.Answers.{registerData}
 
 isr-of-requires : tie.Need-isr-of-requires
-isr-of-requires c κs = search needs
+isr-of-requires c κs = tt
 
 front-data-requires : tie.Need-front-data-requires
-front-data-requires c κs = search needs
+front-data-requires c κs = tt
 
 returns : tie.Need-returns
 unfolding registerData pick

@@ -1,20 +1,20 @@
 -- `command_feed` meets its contract: it is what its callees answer. Assumes nothing.
-use borrow.Author.Needs.{needs}
+use Prim.{tt}
 use Rattle.commands.proofs.commands.command_feed.Statement.{statement}
 use Rattle.commands.proofs.commands.command_feed.Tie as tie
 use Rattle.commands.specs.Commands.{commandFeed}
 
 effect-bits-requires : tie.Need-effect-bits-requires
-effect-bits-requires c κs = search needs
+effect-bits-requires c κs = tt
 
 enabled-then-requires : tie.Need-enabled-then-requires
-enabled-then-requires c κs = search needs
+enabled-then-requires c κs = tt
 
 receiver-enabling-requires : tie.Need-receiver-enabling-requires
-receiver-enabling-requires c κs = search needs
+receiver-enabling-requires c κs = tt
 
 receiver-effect-requires : tie.Need-receiver-effect-requires
-receiver-effect-requires c κs = search needs
+receiver-effect-requires c κs = tt
 
 returns : tie.Need-returns
 unfolding commandFeed

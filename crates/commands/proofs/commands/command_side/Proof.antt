@@ -1,29 +1,29 @@
 -- `command_side` meets its contract: it is what its callees answer. Assumes nothing.
-use borrow.Author.Needs.{needs}
+use Prim.{tt}
 use Rattle.commands.proofs.commands.command_side.Statement.{statement}
 use Rattle.commands.proofs.commands.command_side.Tie as tie
 use Rattle.commands.specs.Commands.{sideCommanded}
 
 effect-bits-requires : tie.Need-effect-bits-requires
-effect-bits-requires c κs = search needs
+effect-bits-requires c κs = tt
 
 transmitter-effect-requires : tie.Need-transmitter-effect-requires
-transmitter-effect-requires c κs = search needs
+transmitter-effect-requires c κs = tt
 
 transmitter-enabling-requires : tie.Need-transmitter-enabling-requires
-transmitter-enabling-requires c κs = search needs
+transmitter-enabling-requires c κs = tt
 
 step-transmitter-requires : tie.Need-step-transmitter-requires
-step-transmitter-requires c κs = search needs
+step-transmitter-requires c κs = tt
 
 step-transmitter-requires-2 : tie.Need-step-transmitter-requires-2
-step-transmitter-requires-2 c κs = search needs
+step-transmitter-requires-2 c κs = tt
 
 enabled-then-requires : tie.Need-enabled-then-requires
-enabled-then-requires c κs = search needs
+enabled-then-requires c κs = tt
 
 enabled-after-requires : tie.Need-enabled-after-requires
-enabled-after-requires c κs = search needs
+enabled-after-requires c κs = tt
 
 returns : tie.Need-returns
 unfolding sideCommanded

@@ -1,17 +1,17 @@
 -- `device_lines` meets its contract: it is what its callees answer. Assumes nothing.
-use borrow.Author.Needs.{needs}
+use Prim.{tt}
 use Rattle.device.proofs.device.device_lines.Statement.{statement}
 use Rattle.device.proofs.device.device_lines.Tie as tie
 use Rattle.device.specs.Device.{deviceLines}
 
 show-channel-requires : tie.Need-show-channel-requires
-show-channel-requires c κs = search needs
+show-channel-requires c κs = tt
 
 show-channel-requires-2 : tie.Need-show-channel-requires-2
-show-channel-requires-2 c κs = search needs
+show-channel-requires-2 c κs = tt
 
 lines-of-requires : tie.Need-lines-of-requires
-lines-of-requires c κs = search needs
+lines-of-requires c κs = tt
 
 returns : tie.Need-returns
 unfolding deviceLines

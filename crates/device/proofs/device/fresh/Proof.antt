@@ -1,17 +1,17 @@
 -- `fresh` meets its contract: it is what its callees answer. Assumes nothing.
-use borrow.Author.Needs.{needs}
+use Prim.{tt}
 use Rattle.device.proofs.device.fresh.Statement.{statement}
 use Rattle.device.proofs.device.fresh.Tie as tie
 use Rattle.device.specs.Device.{freshDevice}
 
 front-at-requires : tie.Need-front-at-requires
-front-at-requires c κs = search needs
+front-at-requires c κs = tt
 
 fresh-receiver-requires : tie.Need-fresh-receiver-requires
-fresh-receiver-requires c κs = search needs
+fresh-receiver-requires c κs = tt
 
 fresh-receiver-requires-2 : tie.Need-fresh-receiver-requires-2
-fresh-receiver-requires-2 c κs = search needs
+fresh-receiver-requires-2 c κs = tt
 
 returns : tie.Need-returns
 unfolding freshDevice

@@ -1,17 +1,17 @@
 -- `is_sound` meets its contract: it is what its callees answer. Assumes nothing.
-use borrow.Author.Needs.{needs}
+use Prim.{tt}
 use Rattle.device.proofs.device.is_sound.Statement.{statement}
 use Rattle.device.proofs.device.is_sound.Tie as tie
 use Rattle.device.specs.Device.{isSoundOf}
 
 front-in-range-requires : tie.Need-front-in-range-requires
-front-in-range-requires c κs = search needs
+front-in-range-requires c κs = tt
 
 receiver-is-sound-requires : tie.Need-receiver-is-sound-requires
-receiver-is-sound-requires c κs = search needs
+receiver-is-sound-requires c κs = tt
 
 receiver-is-sound-requires-2 : tie.Need-receiver-is-sound-requires-2
-receiver-is-sound-requires-2 c κs = search needs
+receiver-is-sound-requires-2 c κs = tt
 
 returns : tie.Need-returns
 unfolding isSoundOf

@@ -1,11 +1,11 @@
 -- `accept` meets its contract: it is what its callees answer. Assumes nothing.
-use borrow.Author.Needs.{needs}
+use Prim.{tt}
 use Rattle.duart.proofs.duart.accept.Statement.{statement}
 use Rattle.duart.proofs.duart.accept.Tie as tie
 use Rattle.duart.specs.Duart.{acceptedOf}
 
 device-lines-requires : tie.Need-device-lines-requires
-device-lines-requires c κs = search needs
+device-lines-requires c κs = tt
 
 returns : tie.Need-returns
 unfolding acceptedOf

@@ -1,19 +1,19 @@
 -- `refusal_lines` meets its contract: each way through the tests is the definition's, with the callee's answer. Assumes nothing.
-use borrow.Author.Needs.{needs}
+use Prim.{tt}
 use Rattle.duart.proofs.duart.refusal_lines.Statement.{statement}
 use Rattle.duart.proofs.duart.refusal_lines.Tie as tie
 use Rattle.format.proofs.Laws.{steps}
 use Rattle.duart.specs.Duart.{refusalLines}
 
 no-lines-requires : tie.Need-no-lines-requires
-no-lines-requires c κs = search needs
+no-lines-requires c κs = tt
 
 returns : tie.Need-returns
 unfolding refusalLines
 returns c = simp (c .no-lines .ensures) (search steps)
 
 device-lines-requires : tie.Need-device-lines-requires
-device-lines-requires c κs = search needs
+device-lines-requires c κs = tt
 
 returns-2 : tie.Need-returns-2
 unfolding refusalLines

@@ -1,11 +1,11 @@
 -- `refuse` meets its contract: it is what its callees answer. Assumes nothing.
-use borrow.Author.Needs.{needs}
+use Prim.{tt}
 use Rattle.duart.proofs.duart.refuse.Statement.{statement}
 use Rattle.duart.proofs.duart.refuse.Tie as tie
 use Rattle.duart.specs.Duart.{refusedOf}
 
 refusal-lines-requires : tie.Need-refusal-lines-requires
-refusal-lines-requires c κs = search needs
+refusal-lines-requires c κs = tt
 
 returns : tie.Need-returns
 unfolding refusedOf

@@ -1,6 +1,6 @@
 -- `step` meets its contract: each way out is the table's answer, by the laws of the table. Assumes nothing.
+use Prim.{tt}
 use mathlib.Core.Path.{sym, ap, _∙_}
-use borrow.Author.Needs.{needs}
 use Rattle.duart.proofs.duart.step.Statement.{statement}
 use Rattle.duart.proofs.duart.step.Tie as tie
 use Rattle.duart.proofs.Laws.Table.{accepts, refuses-seven, refuses-first}
@@ -8,16 +8,16 @@ use Rattle.device.specs.Device.{isSoundOf}
 use Rattle.duart.specs.declared.duart.Taken.{Taken}
 
 first-refusal-requires : tie.Need-first-refusal-requires
-first-refusal-requires c κs = search needs
+first-refusal-requires c κs = tt
 
 take-event-requires : tie.Need-take-event-requires
-take-event-requires c κs = search needs
+take-event-requires c κs = tt
 
 is-sound-requires : tie.Need-is-sound-requires
-is-sound-requires c κs = search needs
+is-sound-requires c κs = tt
 
 accept-requires : tie.Need-accept-requires
-accept-requires c κs = search needs
+accept-requires c κs = tt
 
 returns : tie.Need-returns
 returns c =
@@ -26,7 +26,7 @@ returns c =
     (ap (λ (x : Taken). isSoundOf (x .state)) (sym (c .before .before .before .take-event .ensures)) ∙ sym (c .before .before .is-sound .ensures) ∙ c .before .if2 .taken)))
 
 refuse-requires : tie.Need-refuse-requires
-refuse-requires c κs = search needs
+refuse-requires c κs = tt
 
 returns-2 : tie.Need-returns-2
 returns-2 c =
@@ -35,7 +35,7 @@ returns-2 c =
     (ap (λ (x : Taken). isSoundOf (x .state)) (sym (c .before .before .before .take-event .ensures)) ∙ sym (c .before .before .is-sound .ensures) ∙ c .before .if2 .left)))
 
 refuse-requires-2 : tie.Need-refuse-requires-2
-refuse-requires-2 c κs = search needs
+refuse-requires-2 c κs = tt
 
 returns-3 : tie.Need-returns-3
 returns-3 c =

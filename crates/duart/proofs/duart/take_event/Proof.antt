@@ -1,26 +1,26 @@
 -- `take_event` meets its contract: one arm an event, each the definition's. Assumes nothing.
-use borrow.Author.Needs.{needs}
+use Prim.{tt}
 use Rattle.duart.proofs.duart.take_event.Statement.{statement}
 use Rattle.duart.proofs.duart.take_event.Tie as tie
 use Rattle.duart.specs.Duart.{takenOf}
 
 step-front-requires : tie.Need-step-front-requires
-step-front-requires c κs = search needs
+step-front-requires c κs = tt
 
 feed-receiver-requires : tie.Need-feed-receiver-requires
-feed-receiver-requires c κs = search needs
+feed-receiver-requires c κs = tt
 
 feed-receiver-requires-2 : tie.Need-feed-receiver-requires-2
-feed-receiver-requires-2 c κs = search needs
+feed-receiver-requires-2 c κs = tt
 
 show-channel-requires : tie.Need-show-channel-requires
-show-channel-requires c κs = search needs
+show-channel-requires c κs = tt
 
 show-channel-requires-2 : tie.Need-show-channel-requires-2
-show-channel-requires-2 c κs = search needs
+show-channel-requires-2 c κs = tt
 
 event-data-requires : tie.Need-event-data-requires
-event-data-requires c κs = search needs
+event-data-requires c κs = tt
 
 returns : tie.Need-returns
 unfolding takenOf

@@ -1,4 +1,5 @@
 -- `is_forbidden_command` meets its contract: one arm a register, each the definition's. Assumes nothing.
+use Prim.{tt}
 use borrow.Author.Needs.{needs}
 use Rattle.events.proofs.refusals.is_forbidden_command.Statement.{statement}
 use Rattle.events.proofs.refusals.is_forbidden_command.Tie as tie
@@ -15,7 +16,7 @@ enum-known-event-2 : tie.Need-enum-known-event-2
 enum-known-event-2 c = search needs
 
 command-forbidden-requires : tie.Need-command-forbidden-requires
-command-forbidden-requires c κs = search needs
+command-forbidden-requires c κs = tt
 
 enum-told-2 : tie.Need-enum-told-2
 enum-told-2 c = search needs

@@ -1,20 +1,20 @@
 -- `front_at` meets its contract: it is what its callees answer. Assumes nothing.
-use borrow.Author.Needs.{needs}
+use Prim.{tt}
 use Rattle.front.proofs.front.front_at.Statement.{statement}
 use Rattle.front.proofs.front.front_at.Tie as tie
 use Rattle.front.specs.Front.{frontAt}
 
 fresh-side-requires : tie.Need-fresh-side-requires
-fresh-side-requires c κs = search needs
+fresh-side-requires c κs = tt
 
 fresh-side-requires-2 : tie.Need-fresh-side-requires-2
-fresh-side-requires-2 c κs = search needs
+fresh-side-requires-2 c κs = tt
 
 fresh-timer-requires : tie.Need-fresh-timer-requires
-fresh-timer-requires c κs = search needs
+fresh-timer-requires c κs = tt
 
 fresh-outputs-requires : tie.Need-fresh-outputs-requires
-fresh-outputs-requires c κs = search needs
+fresh-outputs-requires c κs = tt
 
 returns : tie.Need-returns
 unfolding frontAt

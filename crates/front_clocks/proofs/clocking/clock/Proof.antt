@@ -1,26 +1,26 @@
 -- `clock` meets its contract: it is what its callees answer. Assumes nothing.
-use borrow.Author.Needs.{needs}
+use Prim.{tt}
 use Rattle.front_clocks.proofs.clocking.clock.Statement.{statement}
 use Rattle.front_clocks.proofs.clocking.clock.Tie as tie
 use Rattle.front_clocks.specs.Clocking.{clockedOf}
 
 count-requires : tie.Need-count-requires
-count-requires c κs = search needs
+count-requires c κs = tt
 
 pins-of-a-requires : tie.Need-pins-of-a-requires
-pins-of-a-requires c κs = search needs
+pins-of-a-requires c κs = tt
 
 clock-side-requires : tie.Need-clock-side-requires
-clock-side-requires c κs = search needs
+clock-side-requires c κs = tt
 
 pins-of-b-requires : tie.Need-pins-of-b-requires
-pins-of-b-requires c κs = search needs
+pins-of-b-requires c κs = tt
 
 clock-side-requires-2 : tie.Need-clock-side-requires-2
-clock-side-requires-2 c κs = search needs
+clock-side-requires-2 c κs = tt
 
 clock-with-requires : tie.Need-clock-with-requires
-clock-with-requires c κs = search needs
+clock-with-requires c κs = tt
 
 returns : tie.Need-returns
 unfolding clockedOf

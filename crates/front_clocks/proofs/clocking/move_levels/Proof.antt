@@ -1,14 +1,14 @@
 -- `move_levels` meets its contract: it is what its callees answer. Assumes nothing.
-use borrow.Author.Needs.{needs}
+use Prim.{tt}
 use Rattle.front_clocks.proofs.clocking.move_levels.Statement.{statement}
 use Rattle.front_clocks.proofs.clocking.move_levels.Tie as tie
 use Rattle.front_clocks.specs.Clocking.{levelsMoved}
 
 move-pins-requires : tie.Need-move-pins-requires
-move-pins-requires c κs = search needs
+move-pins-requires c κs = tt
 
 clock-requires : tie.Need-clock-requires
-clock-requires c κs = search needs
+clock-requires c κs = tt
 
 returns : tie.Need-returns
 unfolding levelsMoved

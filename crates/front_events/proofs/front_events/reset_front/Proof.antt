@@ -1,11 +1,11 @@
 -- `reset_front` meets its contract: one arm an event, each the definition's. Assumes nothing.
-use borrow.Author.Needs.{needs}
+use Prim.{tt}
 use Rattle.front_events.proofs.front_events.reset_front.Statement.{statement}
 use Rattle.front_events.proofs.front_events.reset_front.Tie as tie
 use Rattle.front_events.specs.FrontEvents.{frontReset}
 
 front-at-requires : tie.Need-front-at-requires
-front-at-requires c κs = search needs
+front-at-requires c κs = tt
 
 returns : tie.Need-returns
 unfolding frontReset

@@ -1,4 +1,5 @@
 -- `step_front` meets its contract: one arm a register, each the definition's. Assumes nothing.
+use Prim.{tt}
 use borrow.Author.Needs.{needs}
 use Rattle.front_events.proofs.front_events.step_front.Statement.{statement}
 use Rattle.front_events.proofs.front_events.step_front.Tie as tie
@@ -9,37 +10,37 @@ enum-told : tie.Need-enum-told
 enum-told c = search needs
 
 reset-front-requires : tie.Need-reset-front-requires
-reset-front-requires c κs = search needs
+reset-front-requires c κs = tt
 
 enum-known-event : tie.Need-enum-known-event
 enum-known-event c = search needs
 
 read-register-requires : tie.Need-read-register-requires
-read-register-requires c κs = search needs
+read-register-requires c κs = tt
 
 enum-known-event-2 : tie.Need-enum-known-event-2
 enum-known-event-2 c = search needs
 
 write-register-requires : tie.Need-write-register-requires
-write-register-requires c κs = search needs
+write-register-requires c κs = tt
 
 enum-told-2 : tie.Need-enum-told-2
 enum-told-2 c = search needs
 
 acknowledge-requires : tie.Need-acknowledge-requires
-acknowledge-requires c κs = search needs
+acknowledge-requires c κs = tt
 
 enum-known-event-3 : tie.Need-enum-known-event-3
 enum-known-event-3 c = search needs
 
 move-levels-requires : tie.Need-move-levels-requires
-move-levels-requires c κs = search needs
+move-levels-requires c κs = tt
 
 enum-told-3 : tie.Need-enum-told-3
 enum-told-3 c = search needs
 
 tick-front-requires : tie.Need-tick-front-requires
-tick-front-requires c κs = search needs
+tick-front-requires c κs = tt
 
 returns : tie.Need-returns
 unfolding frontStepped pick

@@ -1,4 +1,5 @@
 -- `chooses_not_modelled` meets its contract: one arm a register, each the definition's. Assumes nothing.
+use Prim.{tt}
 use borrow.Author.Needs.{needs}
 use Rattle.front_events.proofs.not_modelled.chooses_not_modelled.Statement.{statement}
 use Rattle.front_events.proofs.not_modelled.chooses_not_modelled.Tie as tie
@@ -15,7 +16,7 @@ enum-known-event-2 : tie.Need-enum-known-event-2
 enum-known-event-2 c = search needs
 
 write-not-modelled-requires : tie.Need-write-not-modelled-requires
-write-not-modelled-requires c κs = search needs
+write-not-modelled-requires c κs = tt
 
 enum-told-2 : tie.Need-enum-told-2
 enum-told-2 c = search needs

@@ -1,5 +1,5 @@
 -- `write_not_modelled` meets its contract: one arm a register, each the definition's. Assumes nothing.
-use borrow.Author.Needs.{needs}
+use Prim.{tt}
 use Rattle.front_events.proofs.not_modelled.write_not_modelled.Statement.{statement}
 use Rattle.front_events.proofs.not_modelled.write_not_modelled.Tie as tie
 use Rattle.format.proofs.Laws.{steps}
@@ -7,13 +7,13 @@ use Rattle.format.specs.Pick.{pick}
 use Rattle.front_events.specs.NotModelled.{writeNotModelled}
 
 mode-not-modelled-requires : tie.Need-mode-not-modelled-requires
-mode-not-modelled-requires c κs = search needs
+mode-not-modelled-requires c κs = tt
 
 mode-not-modelled-requires-2 : tie.Need-mode-not-modelled-requires-2
-mode-not-modelled-requires-2 c κs = search needs
+mode-not-modelled-requires-2 c κs = tt
 
 opcr-not-modelled-requires : tie.Need-opcr-not-modelled-requires
-opcr-not-modelled-requires c κs = search needs
+opcr-not-modelled-requires c κs = tt
 
 returns : tie.Need-returns
 unfolding writeNotModelled pick

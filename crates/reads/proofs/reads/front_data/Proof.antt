@@ -1,4 +1,5 @@
 -- `front_data` meets its contract: one arm a register, each the definition's. Assumes nothing.
+use Prim.{tt}
 use borrow.Author.Needs.{needs}
 use Rattle.reads.proofs.reads.front_data.Statement.{statement}
 use Rattle.reads.proofs.reads.front_data.Tie as tie
@@ -7,10 +8,10 @@ use Rattle.format.specs.Pick.{pick}
 use Rattle.reads.specs.Reads.{frontData}
 
 mode-register-requires : tie.Need-mode-register-requires
-mode-register-requires c κs = search needs
+mode-register-requires c κs = tt
 
 change-register-requires : tie.Need-change-register-requires
-change-register-requires c κs = search needs
+change-register-requires c κs = tt
 
 cast-result : tie.Need-cast-result
 cast-result c = search needs
@@ -19,10 +20,10 @@ cast-result-2 : tie.Need-cast-result-2
 cast-result-2 c = search needs
 
 mode-register-requires-2 : tie.Need-mode-register-requires-2
-mode-register-requires-2 c κs = search needs
+mode-register-requires-2 c κs = tt
 
 input-port-requires : tie.Need-input-port-requires
-input-port-requires c κs = search needs
+input-port-requires c κs = tt
 
 returns : tie.Need-returns
 unfolding frontData pick

@@ -1,11 +1,11 @@
 -- `read_flags` meets its contract: it is what its callees answer. Assumes nothing.
-use borrow.Author.Needs.{needs}
+use Prim.{tt}
 use Rattle.reads.proofs.reads.read_flags.Statement.{statement}
 use Rattle.reads.proofs.reads.read_flags.Tie as tie
 use Rattle.reads.specs.Reads.{flagsRead}
 
 clear-changes-requires : tie.Need-clear-changes-requires
-clear-changes-requires c κs = search needs
+clear-changes-requires c κs = tt
 
 returns : tie.Need-returns
 unfolding flagsRead

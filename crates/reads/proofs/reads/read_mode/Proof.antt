@@ -1,14 +1,14 @@
 -- `read_mode` meets its contract: it is what its callees answer. Assumes nothing.
-use borrow.Author.Needs.{needs}
+use Prim.{tt}
 use Rattle.reads.proofs.reads.read_mode.Statement.{statement}
 use Rattle.reads.proofs.reads.read_mode.Tie as tie
 use Rattle.reads.specs.Reads.{modeRead}
 
 point-requires : tie.Need-point-requires
-point-requires c κs = search needs
+point-requires c κs = tt
 
 hand-side-requires : tie.Need-hand-side-requires
-hand-side-requires c κs = search needs
+hand-side-requires c κs = tt
 
 returns : tie.Need-returns
 unfolding modeRead

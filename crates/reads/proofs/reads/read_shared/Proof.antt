@@ -1,5 +1,5 @@
 -- `read_shared` meets its contract: one arm a register, each the definition's. Assumes nothing.
-use borrow.Author.Needs.{needs}
+use Prim.{tt}
 use Rattle.reads.proofs.reads.read_shared.Statement.{statement}
 use Rattle.reads.proofs.reads.read_shared.Tie as tie
 use Rattle.format.proofs.Laws.{steps}
@@ -7,13 +7,13 @@ use Rattle.format.specs.Pick.{pick}
 use Rattle.reads.specs.Reads.{sharedRead}
 
 read-flags-requires : tie.Need-read-flags-requires
-read-flags-requires c κs = search needs
+read-flags-requires c κs = tt
 
 start-requires : tie.Need-start-requires
-start-requires c κs = search needs
+start-requires c κs = tt
 
 stop-requires : tie.Need-stop-requires
-stop-requires c κs = search needs
+stop-requires c κs = tt
 
 returns : tie.Need-returns
 unfolding sharedRead pick

@@ -1,5 +1,5 @@
 -- `read_side` meets its contract: one arm a register, each the definition's. Assumes nothing.
-use borrow.Author.Needs.{needs}
+use Prim.{tt}
 use Rattle.reads.proofs.reads.read_side.Statement.{statement}
 use Rattle.reads.proofs.reads.read_side.Tie as tie
 use Rattle.format.proofs.Laws.{steps}
@@ -7,13 +7,13 @@ use Rattle.format.specs.Pick.{pick}
 use Rattle.reads.specs.Reads.{sideRead}
 
 read-mode-requires : tie.Need-read-mode-requires
-read-mode-requires c κs = search needs
+read-mode-requires c κs = tt
 
 hand-side-requires : tie.Need-hand-side-requires
-hand-side-requires c κs = search needs
+hand-side-requires c κs = tt
 
 hand-side-requires-2 : tie.Need-hand-side-requires-2
-hand-side-requires-2 c κs = search needs
+hand-side-requires-2 c κs = tt
 
 returns : tie.Need-returns
 unfolding sideRead pick

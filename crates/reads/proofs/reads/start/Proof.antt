@@ -1,14 +1,14 @@
 -- `start` meets its contract: it is what its callees answer. Assumes nothing.
-use borrow.Author.Needs.{needs}
+use Prim.{tt}
 use Rattle.reads.proofs.reads.start.Statement.{statement}
 use Rattle.reads.proofs.reads.start.Tie as tie
 use Rattle.reads.specs.Reads.{counterStarted}
 
 mode-of-requires : tie.Need-mode-of-requires
-mode-of-requires c κs = search needs
+mode-of-requires c κs = tt
 
 start-counter-requires : tie.Need-start-counter-requires
-start-counter-requires c κs = search needs
+start-counter-requires c κs = tt
 
 returns : tie.Need-returns
 unfolding counterStarted

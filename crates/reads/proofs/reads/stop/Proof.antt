@@ -1,14 +1,14 @@
 -- `stop` meets its contract: it is what its callees answer. Assumes nothing.
-use borrow.Author.Needs.{needs}
+use Prim.{tt}
 use Rattle.reads.proofs.reads.stop.Statement.{statement}
 use Rattle.reads.proofs.reads.stop.Tie as tie
 use Rattle.reads.specs.Reads.{counterStopped}
 
 mode-of-requires : tie.Need-mode-of-requires
-mode-of-requires c κs = search needs
+mode-of-requires c κs = tt
 
 stop-counter-requires : tie.Need-stop-counter-requires
-stop-counter-requires c κs = search needs
+stop-counter-requires c κs = tt
 
 returns : tie.Need-returns
 unfolding counterStopped

@@ -1,44 +1,44 @@
 -- `first_refusal` meets its contract: it is what its callees answer. Assumes nothing.
-use borrow.Author.Needs.{needs}
+use Prim.{tt}
 use Rattle.refusals.proofs.refusals.first_refusal.Statement.{statement}
 use Rattle.refusals.proofs.refusals.first_refusal.Tie as tie
 use Rattle.refusals.specs.Refusals.{firstOf}
 
 is-sound-requires : tie.Need-is-sound-requires
-is-sound-requires c κs = search needs
+is-sound-requires c κs = tt
 
 is-register-above-15-requires : tie.Need-is-register-above-15-requires
-is-register-above-15-requires c κs = search needs
+is-register-above-15-requires c κs = tt
 
 is-forbidden-read-requires : tie.Need-is-forbidden-read-requires
-is-forbidden-read-requires c κs = search needs
+is-forbidden-read-requires c κs = tt
 
 is-forbidden-command-requires : tie.Need-is-forbidden-command-requires
-is-forbidden-command-requires c κs = search needs
+is-forbidden-command-requires c κs = tt
 
 chooses-not-modelled-requires : tie.Need-chooses-not-modelled-requires
-chooses-not-modelled-requires c κs = search needs
+chooses-not-modelled-requires c κs = tt
 
 is-unasserted-acknowledge-requires : tie.Need-is-unasserted-acknowledge-requires
-is-unasserted-acknowledge-requires c κs = search needs
+is-unasserted-acknowledge-requires c κs = tt
 
 row-requires : tie.Need-row-requires
-row-requires c κs = search needs
+row-requires c κs = tt
 
 row-requires-2 : tie.Need-row-requires-2
-row-requires-2 c κs = search needs
+row-requires-2 c κs = tt
 
 row-requires-3 : tie.Need-row-requires-3
-row-requires-3 c κs = search needs
+row-requires-3 c κs = tt
 
 row-requires-4 : tie.Need-row-requires-4
-row-requires-4 c κs = search needs
+row-requires-4 c κs = tt
 
 row-requires-5 : tie.Need-row-requires-5
-row-requires-5 c κs = search needs
+row-requires-5 c κs = tt
 
 row-requires-6 : tie.Need-row-requires-6
-row-requires-6 c κs = search needs
+row-requires-6 c κs = tt
 
 returns : tie.Need-returns
 unfolding firstOf

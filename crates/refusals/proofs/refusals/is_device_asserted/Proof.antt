@@ -1,17 +1,17 @@
 -- `is_device_asserted` meets its contract: it is what its callees answer. Assumes nothing.
-use borrow.Author.Needs.{needs}
+use Prim.{tt}
 use Rattle.refusals.proofs.refusals.is_device_asserted.Statement.{statement}
 use Rattle.refusals.proofs.refusals.is_device_asserted.Tie as tie
 use Rattle.refusals.specs.Refusals.{deviceAsserted}
 
 show-channel-requires : tie.Need-show-channel-requires
-show-channel-requires c κs = search needs
+show-channel-requires c κs = tt
 
 show-channel-requires-2 : tie.Need-show-channel-requires-2
-show-channel-requires-2 c κs = search needs
+show-channel-requires-2 c κs = tt
 
 is-asserted-requires : tie.Need-is-asserted-requires
-is-asserted-requires c κs = search needs
+is-asserted-requires c κs = tt
 
 returns : tie.Need-returns
 unfolding deviceAsserted

@@ -1,4 +1,5 @@
 -- `is_unasserted_acknowledge` meets its contract: one arm a register, each the definition's. Assumes nothing.
+use Prim.{tt}
 use borrow.Author.Needs.{needs}
 use Rattle.refusals.proofs.refusals.is_unasserted_acknowledge.Statement.{statement}
 use Rattle.refusals.proofs.refusals.is_unasserted_acknowledge.Tie as tie
@@ -18,7 +19,7 @@ enum-told-2 : tie.Need-enum-told-2
 enum-told-2 c = search needs
 
 is-device-asserted-requires : tie.Need-is-device-asserted-requires
-is-device-asserted-requires c κs = search needs
+is-device-asserted-requires c κs = tt
 
 enum-known-event-3 : tie.Need-enum-known-event-3
 enum-known-event-3 c = search needs

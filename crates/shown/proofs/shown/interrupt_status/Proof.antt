@@ -1,10 +1,11 @@
 -- `interrupt_status` meets its contract: it is what its callees answer. Assumes nothing.
+use Prim.{tt}
 use borrow.Author.Needs.{needs}
 use Rattle.shown.proofs.shown.interrupt_status.Statement.{statement}
 use Rattle.shown.proofs.shown.interrupt_status.Tie as tie
 
 byte-of-requires : tie.Need-byte-of-requires
-byte-of-requires c κs = search needs
+byte-of-requires c κs = tt
 
 returns : tie.Need-returns
 returns c = search needs

@@ -1,20 +1,20 @@
 -- `show_channel` meets its contract: it is what its callees answer. Assumes nothing.
-use borrow.Author.Needs.{needs}
+use Prim.{tt}
 use Rattle.shown.proofs.shown.show_channel.Statement.{statement}
 use Rattle.shown.proofs.shown.show_channel.Tie as tie
 use Rattle.shown.specs.Shown.{shownOf}
 
 show-status-requires : tie.Need-show-status-requires
-show-status-requires c κs = search needs
+show-status-requires c κs = tt
 
 transmitter-status-requires : tie.Need-transmitter-status-requires
-transmitter-status-requires c κs = search needs
+transmitter-status-requires c κs = tt
 
 status-register-requires : tie.Need-status-register-requires
-status-register-requires c κs = search needs
+status-register-requires c κs = tt
 
 received-of-requires : tie.Need-received-of-requires
-received-of-requires c κs = search needs
+received-of-requires c κs = tt
 
 returns : tie.Need-returns
 unfolding shownOf

@@ -1,11 +1,11 @@
 -- `change_set` meets its contract: it is what its callees answer. Assumes nothing.
-use borrow.Author.Needs.{needs}
+use Prim.{tt}
 use Rattle.side.proofs.side.change_set.Statement.{statement}
 use Rattle.side.proofs.side.change_set.Tie as tie
 use Rattle.side.specs.Side.{setChanged}
 
 restart-on-change-requires : tie.Need-restart-on-change-requires
-restart-on-change-requires c κs = search needs
+restart-on-change-requires c κs = tt
 
 returns : tie.Need-returns
 unfolding setChanged

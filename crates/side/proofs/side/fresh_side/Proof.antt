@@ -1,14 +1,14 @@
 -- `fresh_side` meets its contract: it is what its callees answer. Assumes nothing.
-use borrow.Author.Needs.{needs}
+use Prim.{tt}
 use Rattle.side.proofs.side.fresh_side.Statement.{statement}
 use Rattle.side.proofs.side.fresh_side.Tie as tie
 use Rattle.side.specs.Side.{freshSide}
 
 fresh-transmitter-requires : tie.Need-fresh-transmitter-requires
-fresh-transmitter-requires c κs = search needs
+fresh-transmitter-requires c κs = tt
 
 restart-requires : tie.Need-restart-requires
-restart-requires c κs = search needs
+restart-requires c κs = tt
 
 returns : tie.Need-returns
 unfolding freshSide

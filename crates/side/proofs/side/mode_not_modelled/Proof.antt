@@ -1,19 +1,19 @@
 -- `mode_not_modelled` meets its contract: each way through the tests is the definition's, with the callee's answer. Assumes nothing.
-use borrow.Author.Needs.{needs}
+use Prim.{tt}
 use Rattle.side.proofs.side.mode_not_modelled.Statement.{statement}
 use Rattle.side.proofs.side.mode_not_modelled.Tie as tie
 use Rattle.format.proofs.Laws.{steps}
 use Rattle.side.specs.Side.{modeNotModelled}
 
 mr2-not-modelled-requires : tie.Need-mr2-not-modelled-requires
-mr2-not-modelled-requires c κs = search needs
+mr2-not-modelled-requires c κs = tt
 
 returns : tie.Need-returns
 unfolding modeNotModelled
 returns c = simp (c .mr2-not-modelled .ensures) (search steps)
 
 mr1-not-modelled-requires : tie.Need-mr1-not-modelled-requires
-mr1-not-modelled-requires c κs = search needs
+mr1-not-modelled-requires c κs = tt
 
 returns-2 : tie.Need-returns-2
 unfolding modeNotModelled

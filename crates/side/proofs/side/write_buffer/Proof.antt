@@ -1,11 +1,11 @@
 -- `write_buffer` meets its contract: it is what its callees answer. Assumes nothing.
-use borrow.Author.Needs.{needs}
+use Prim.{tt}
 use Rattle.side.proofs.side.write_buffer.Statement.{statement}
 use Rattle.side.proofs.side.write_buffer.Tie as tie
 use Rattle.side.specs.Side.{bufferWritten}
 
 step-transmitter-requires : tie.Need-step-transmitter-requires
-step-transmitter-requires c κs = search needs
+step-transmitter-requires c κs = tt
 
 returns : tie.Need-returns
 unfolding bufferWritten

@@ -1,11 +1,11 @@
 -- `write_csr` meets its contract: it is what its callees answer. Assumes nothing.
-use borrow.Author.Needs.{needs}
+use Prim.{tt}
 use Rattle.side.proofs.side.write_csr.Statement.{statement}
 use Rattle.side.proofs.side.write_csr.Tie as tie
 use Rattle.side.specs.Side.{csrWritten}
 
 restart-requires : tie.Need-restart-requires
-restart-requires c κs = search needs
+restart-requires c κs = tt
 
 returns : tie.Need-returns
 unfolding csrWritten

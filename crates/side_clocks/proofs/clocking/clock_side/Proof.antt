@@ -1,17 +1,17 @@
 -- `clock_side` meets its contract: it is what its callees answer. Assumes nothing.
-use borrow.Author.Needs.{needs}
+use Prim.{tt}
 use Rattle.side_clocks.proofs.clocking.clock_side.Statement.{statement}
 use Rattle.side_clocks.proofs.clocking.clock_side.Tie as tie
 use Rattle.side_clocks.specs.Clocking.{sideClocked}
 
 clock-channel-requires : tie.Need-clock-channel-requires
-clock-channel-requires c κs = search needs
+clock-channel-requires c κs = tt
 
 pulse-transmitter-requires : tie.Need-pulse-transmitter-requires
-pulse-transmitter-requires c κs = search needs
+pulse-transmitter-requires c κs = tt
 
 line-of-requires : tie.Need-line-of-requires
-line-of-requires c κs = search needs
+line-of-requires c κs = tt
 
 returns : tie.Need-returns
 unfolding sideClocked

@@ -1,12 +1,12 @@
 -- `line_of` meets its contract: each way through the tests is the definition's, with the callee's answer. Assumes nothing.
-use borrow.Author.Needs.{needs}
+use Prim.{tt}
 use Rattle.side_clocks.proofs.clocking.line_of.Statement.{statement}
 use Rattle.side_clocks.proofs.clocking.line_of.Tie as tie
 use Rattle.format.proofs.Laws.{steps}
 use Rattle.side_clocks.specs.Clocking.{lineOf}
 
 setting-of-requires : tie.Need-setting-of-requires
-setting-of-requires c κs = search needs
+setting-of-requires c κs = tt
 
 returns : tie.Need-returns
 unfolding lineOf

@@ -1,15 +1,15 @@
 -- `pulse_transmitter` meets its contract: each way through the tests is the definition's, with the callee's answer. Assumes nothing.
-use borrow.Author.Needs.{needs}
+use Prim.{tt}
 use Rattle.side_clocks.proofs.clocking.pulse_transmitter.Statement.{statement}
 use Rattle.side_clocks.proofs.clocking.pulse_transmitter.Tie as tie
 use Rattle.format.proofs.Laws.{steps}
 use Rattle.side_clocks.specs.Clocking.{transmitterPulsed}
 
 is-sixteen-requires : tie.Need-is-sixteen-requires
-is-sixteen-requires c κs = search needs
+is-sixteen-requires c κs = tt
 
 step-transmitter-requires : tie.Need-step-transmitter-requires
-step-transmitter-requires c κs = search needs
+step-transmitter-requires c κs = tt
 
 returns : tie.Need-returns
 unfolding transmitterPulsed

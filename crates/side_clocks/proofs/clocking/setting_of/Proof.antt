@@ -1,14 +1,14 @@
 -- `setting_of` meets its contract: it is what its callees answer. Assumes nothing.
-use borrow.Author.Needs.{needs}
+use Prim.{tt}
 use Rattle.side_clocks.proofs.clocking.setting_of.Statement.{statement}
 use Rattle.side_clocks.proofs.clocking.setting_of.Tie as tie
 use Rattle.side_clocks.specs.Clocking.{settingOf}
 
 format-of-requires : tie.Need-format-of-requires
-format-of-requires c κs = search needs
+format-of-requires c κs = tt
 
 is-sixteen-requires : tie.Need-is-sixteen-requires
-is-sixteen-requires c κs = search needs
+is-sixteen-requires c κs = tt
 
 returns : tie.Need-returns
 unfolding settingOf

@@ -1,19 +1,19 @@
 -- `front_in_range` meets its contract: it is what its callees answer. Assumes nothing.
-use borrow.Author.Needs.{needs}
+use Prim.{tt}
 use Rattle.soundness.proofs.soundness.front_in_range.Statement.{statement}
 use Rattle.soundness.proofs.soundness.front_in_range.Tie as tie
 
 side-in-range-requires : tie.Need-side-in-range-requires
-side-in-range-requires c κs = search needs
+side-in-range-requires c κs = tt
 
 side-in-range-requires-2 : tie.Need-side-in-range-requires-2
-side-in-range-requires-2 c κs = search needs
+side-in-range-requires-2 c κs = tt
 
 timer-in-range-requires : tie.Need-timer-in-range-requires
-timer-in-range-requires c κs = search needs
+timer-in-range-requires c κs = tt
 
 opcr-not-modelled-requires : tie.Need-opcr-not-modelled-requires
-opcr-not-modelled-requires c κs = search needs
+opcr-not-modelled-requires c κs = tt
 
 returns : tie.Need-returns
 returns c = simp (c .opcr-not-modelled .ensures, c .before .before .timer-in-range .ensures, c .before .before .before .side-in-range2 .ensures, c .before .before .before .before .side-in-range .ensures)

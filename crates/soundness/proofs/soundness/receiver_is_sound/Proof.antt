@@ -1,14 +1,14 @@
 -- `receiver_is_sound` meets its contract: it is what its callees answer. Assumes nothing.
-use borrow.Author.Needs.{needs}
+use Prim.{tt}
 use Rattle.soundness.proofs.soundness.receiver_is_sound.Statement.{statement}
 use Rattle.soundness.proofs.soundness.receiver_is_sound.Tie as tie
 use Rattle.soundness.specs.Soundness.{receiverSound}
 
 sampler-in-range-requires : tie.Need-sampler-in-range-requires
-sampler-in-range-requires c κs = search needs
+sampler-in-range-requires c κs = tt
 
 one-waits-requires : tie.Need-one-waits-requires
-one-waits-requires c κs = search needs
+one-waits-requires c κs = tt
 
 returns : tie.Need-returns
 unfolding receiverSound

@@ -1,10 +1,10 @@
 -- `sampler_in_range` meets its contract: it is what its callees answer. Assumes nothing.
-use borrow.Author.Needs.{needs}
+use Prim.{tt}
 use Rattle.soundness.proofs.soundness.sampler_in_range.Statement.{statement}
 use Rattle.soundness.proofs.soundness.sampler_in_range.Tie as tie
 
 setting-in-range-requires : tie.Need-setting-in-range-requires
-setting-in-range-requires c κs = search needs
+setting-in-range-requires c κs = tt
 
 returns : tie.Need-returns
 returns c = simp (c .before .before .setting-in-range .ensures)

@@ -1,19 +1,19 @@
 -- `side_in_range` meets its contract: it is what its callees answer. Assumes nothing.
-use borrow.Author.Needs.{needs}
+use Prim.{tt}
 use Rattle.soundness.proofs.soundness.side_in_range.Statement.{statement}
 use Rattle.soundness.proofs.soundness.side_in_range.Tie as tie
 
 mr1-not-modelled-requires : tie.Need-mr1-not-modelled-requires
-mr1-not-modelled-requires c κs = search needs
+mr1-not-modelled-requires c κs = tt
 
 mr2-not-modelled-requires : tie.Need-mr2-not-modelled-requires
-mr2-not-modelled-requires c κs = search needs
+mr2-not-modelled-requires c κs = tt
 
 transmitter-in-range-requires : tie.Need-transmitter-in-range-requires
-transmitter-in-range-requires c κs = search needs
+transmitter-in-range-requires c κs = tt
 
 phases-in-range-requires : tie.Need-phases-in-range-requires
-phases-in-range-requires c κs = search needs
+phases-in-range-requires c κs = tt
 
 returns : tie.Need-returns
 returns c = simp (c .phases-in-range .ensures, c .before .transmitter-in-range .ensures, c .before .before .mr2-not-modelled .ensures, c .before .before .before .mr1-not-modelled .ensures)

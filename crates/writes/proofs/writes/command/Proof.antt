@@ -1,17 +1,17 @@
 -- `command` meets its contract: it is what its callees answer. Assumes nothing.
-use borrow.Author.Needs.{needs}
+use Prim.{tt}
 use Rattle.writes.proofs.writes.command.Statement.{statement}
 use Rattle.writes.proofs.writes.command.Tie as tie
 use Rattle.writes.specs.Writes.{commanded}
 
 command-side-requires : tie.Need-command-side-requires
-command-side-requires c κs = search needs
+command-side-requires c κs = tt
 
 command-feed-requires : tie.Need-command-feed-requires
-command-feed-requires c κs = search needs
+command-feed-requires c κs = tt
 
 hand-side-requires : tie.Need-hand-side-requires
-hand-side-requires c κs = search needs
+hand-side-requires c κs = tt
 
 returns : tie.Need-returns
 unfolding commanded

@@ -1,17 +1,17 @@
 -- `write_acr` meets its contract: it is what its callees answer. Assumes nothing.
-use borrow.Author.Needs.{needs}
+use Prim.{tt}
 use Rattle.writes.proofs.writes.write_acr.Statement.{statement}
 use Rattle.writes.proofs.writes.write_acr.Tie as tie
 use Rattle.writes.specs.Writes.{acrWritten}
 
 change-set-requires : tie.Need-change-set-requires
-change-set-requires c κs = search needs
+change-set-requires c κs = tt
 
 change-set-requires-2 : tie.Need-change-set-requires-2
-change-set-requires-2 c κs = search needs
+change-set-requires-2 c κs = tt
 
 change-mode-requires : tie.Need-change-mode-requires
-change-mode-requires c κs = search needs
+change-mode-requires c κs = tt
 
 returns : tie.Need-returns
 unfolding acrWritten

@@ -1,5 +1,5 @@
 -- `write_shared` meets its contract: one arm a register, each the definition's. Assumes nothing.
-use borrow.Author.Needs.{needs}
+use Prim.{tt}
 use Rattle.writes.proofs.writes.write_shared.Statement.{statement}
 use Rattle.writes.proofs.writes.write_shared.Tie as tie
 use Rattle.format.proofs.Laws.{steps}
@@ -7,43 +7,43 @@ use Rattle.format.specs.Pick.{pick}
 use Rattle.writes.specs.Writes.{sharedWritten}
 
 write-acr-requires : tie.Need-write-acr-requires
-write-acr-requires c κs = search needs
+write-acr-requires c κs = tt
 
 write-imr-requires : tie.Need-write-imr-requires
-write-imr-requires c κs = search needs
+write-imr-requires c κs = tt
 
 preload-high-requires : tie.Need-preload-high-requires
-preload-high-requires c κs = search needs
+preload-high-requires c κs = tt
 
 write-preload-requires : tie.Need-write-preload-requires
-write-preload-requires c κs = search needs
+write-preload-requires c κs = tt
 
 preload-low-requires : tie.Need-preload-low-requires
-preload-low-requires c κs = search needs
+preload-low-requires c κs = tt
 
 write-preload-requires-2 : tie.Need-write-preload-requires-2
-write-preload-requires-2 c κs = search needs
+write-preload-requires-2 c κs = tt
 
 write-ivr-requires : tie.Need-write-ivr-requires
-write-ivr-requires c κs = search needs
+write-ivr-requires c κs = tt
 
 choose-outputs-requires : tie.Need-choose-outputs-requires
-choose-outputs-requires c κs = search needs
+choose-outputs-requires c κs = tt
 
 write-outputs-requires : tie.Need-write-outputs-requires
-write-outputs-requires c κs = search needs
+write-outputs-requires c κs = tt
 
 set-bits-requires : tie.Need-set-bits-requires
-set-bits-requires c κs = search needs
+set-bits-requires c κs = tt
 
 write-outputs-requires-2 : tie.Need-write-outputs-requires-2
-write-outputs-requires-2 c κs = search needs
+write-outputs-requires-2 c κs = tt
 
 reset-bits-requires : tie.Need-reset-bits-requires
-reset-bits-requires c κs = search needs
+reset-bits-requires c κs = tt
 
 write-outputs-requires-3 : tie.Need-write-outputs-requires-3
-write-outputs-requires-3 c κs = search needs
+write-outputs-requires-3 c κs = tt
 
 returns : tie.Need-returns
 unfolding sharedWritten pick

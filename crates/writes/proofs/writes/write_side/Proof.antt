@@ -1,5 +1,5 @@
 -- `write_side` meets its contract: one arm a register, each the definition's. Assumes nothing.
-use borrow.Author.Needs.{needs}
+use Prim.{tt}
 use Rattle.writes.proofs.writes.write_side.Statement.{statement}
 use Rattle.writes.proofs.writes.write_side.Tie as tie
 use Rattle.format.proofs.Laws.{steps}
@@ -7,25 +7,25 @@ use Rattle.format.specs.Pick.{pick}
 use Rattle.writes.specs.Writes.{sideWritten}
 
 write-mode-requires : tie.Need-write-mode-requires
-write-mode-requires c κs = search needs
+write-mode-requires c κs = tt
 
 hand-side-requires : tie.Need-hand-side-requires
-hand-side-requires c κs = search needs
+hand-side-requires c κs = tt
 
 write-csr-requires : tie.Need-write-csr-requires
-write-csr-requires c κs = search needs
+write-csr-requires c κs = tt
 
 hand-side-requires-2 : tie.Need-hand-side-requires-2
-hand-side-requires-2 c κs = search needs
+hand-side-requires-2 c κs = tt
 
 command-requires : tie.Need-command-requires
-command-requires c κs = search needs
+command-requires c κs = tt
 
 write-buffer-requires : tie.Need-write-buffer-requires
-write-buffer-requires c κs = search needs
+write-buffer-requires c κs = tt
 
 hand-side-requires-3 : tie.Need-hand-side-requires-3
-hand-side-requires-3 c κs = search needs
+hand-side-requires-3 c κs = tt
 
 returns : tie.Need-returns
 unfolding sideWritten pick
