@@ -89,7 +89,7 @@ fn accept(taken: Taken) -> Answer
     }
 }
 
-// The first row that applies answers; 7, "the new state would be unsound" is looked at last.
+// The first row that applies answers; 7, "the new state would be unsound", is looked at last.
 pub fn step(device: Device, event: Event) -> Answer
     ensures { λ r. ⌜ r ≡ stepOf device event ⌝ }
 {

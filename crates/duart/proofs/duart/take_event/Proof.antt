@@ -1,4 +1,4 @@
--- `take_event` meets its contract: one arm an event, each the definition's. Assumes nothing.
+-- `take_event` meets its contract: it is what its callees answer. Assumes nothing.
 use Prim.{tt}
 use Rattle.duart.proofs.duart.take_event.Statement.{statement}
 use Rattle.duart.proofs.duart.take_event.Tie as tie

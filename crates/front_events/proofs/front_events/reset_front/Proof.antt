@@ -1,4 +1,4 @@
--- `reset_front` meets its contract: one arm an event, each the definition's. Assumes nothing.
+-- `reset_front` meets its contract: it is what its callees answer. Assumes nothing.
 use Prim.{tt}
 use Rattle.front_events.proofs.front_events.reset_front.Statement.{statement}
 use Rattle.front_events.proofs.front_events.reset_front.Tie as tie
