@@ -33,6 +33,7 @@ use Rattle.duart.specs.Duart.{takenOf, refusedOf, acceptedOf, stepOf}
 use Rattle.refusals.specs.Refusals.{acknowledgedUnasserted, firstOf}
 use Rattle.chip.specs.Alone.{handedAfter, Alone}
 use Rattle.chip.specs.Quiet.{Quiet}
+use Rattle.chip.specs.Reset.{resetAt, Resets}
 use Rattle.chip.specs.Sound.{KeepsSound, NeverSeven, after, StaysSound}
 use Rattle.chip.specs.Table.{Step, row, Table}
 use Rattle.chip.proofs.Examples.{flagged, broken, withMode, idleLines, examples}
@@ -256,3 +257,25 @@ takesFifth d e = pick (isTick e) (record { state = broken; byte = 0 }) (takenOf 
 pub no-takesFifth : KeepsSound takesFifth → ⊥
 unfolding firstOf acknowledgedUnasserted registerAbove15 forbiddenRead forbiddenCommand settingNotModelled freshDevice frontAt freshSide formatOf pick
 no-takesFifth h = true≢false (sym (h freshDevice Tick refl refl))
+
+-- ---- a chip reset ----
+
+-- one that clears the pin levels
+abbrev pub lowersPins : Step
+lowersPins d e = pick (isReset e) (withState (stepOf d e) (resetAt 0)) (stepOf d e)
+
+pub no-lowersPins : Resets lowersPins → ⊥
+unfolding freshDevice frontAt freshSide formatOf pick
+no-lowersPins h =
+    let z : _≡_ {A = ℕ} 0 255 = ap (λ (d : Device). d .front .inputs .levels) (h .state freshDevice refl) in
+    omega arith
+
+-- one that is refused
+abbrev pub refusesReset : Step
+refusesReset d e = pick (isReset e) (refusedOf d 1) (stepOf d e)
+
+pub no-refusesReset : Resets refusesReset → ⊥
+unfolding freshDevice frontAt freshSide formatOf pick
+no-refusesReset h =
+    let z : _≡_ {A = ℕ} 1 0 = h .accepted freshDevice refl in
+    omega arith
