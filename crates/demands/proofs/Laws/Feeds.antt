@@ -1,0 +1,126 @@
+-- What an event hands to a channel's receiver, by the event: a read of its buffer, an accepted command, a pulse of its clock while it is enabled, a
+-- chip reset; all else is nothing to it, refused events too. Assumes nothing.
+use Prim.Native.Nat.{ℕ, _<_}
+use mathlib.Core.Path.{_≡_, refl}
+use mathlib.Core.Bool.{Bool, true, false, _&&_}
+use native.Mathlib.Omega.{arith}
+use lib.Dec.{eqb}
+use borrow.Author.Tests.{lt-ltb, ne-eqb}
+use Rattle.format.specs.Pick.{pick}
+use Rattle.format.proofs.Laws.Pick.{pick-all}
+use Rattle.bytes.specs.Bytes.{hasBit}
+use Rattle.receiver.specs.declared.receiver.Feed.{Feed}
+use Rattle.receiver.specs.declared.receiver.Feed.the-variants as Feeds
+use Rattle.clocks.specs.Pulses.Side.{receives}
+use Rattle.inputs.specs.Inputs.{movedOf, pinsOfA, pinsOfB}
+use Rattle.outputs.specs.Outputs.{opcrNotModelled}
+use Rattle.side.specs.Side.{modeNotModelled}
+use Rattle.side_clocks.specs.Clocking.{settingOf, lineOf, sideClocked}
+use Rattle.commands.specs.Commands.{commandForbidden, commandFeed}
+use Rattle.front.specs.declared.front.Front.{Front}
+use Rattle.front.specs.declared.front.Handed.{Handed}
+use Rattle.front_clocks.specs.Clocking.{clockedWith, clockedOf, levelsMoved}
+use Rattle.reads.specs.Reads.{sideRead, registerRead}
+use Rattle.writes.specs.Writes.{sideWritten, registerWritten}
+use Rattle.events.specs.declared.events.Event.{Event}
+use Rattle.events.specs.declared.events.Event.the-variants.{ChipReset, Read, Write, Acknowledge, Pins, Tick}
+use Rattle.events.specs.Refusals.{registerAbove15, forbiddenRead, forbiddenCommand}
+use Rattle.front_events.specs.FrontEvents.{frontStepped}
+use Rattle.front_events.specs.NotModelled.{writeNotModelled, settingNotModelled}
+use Rattle.chip.specs.Alone.{handedAfter}
+use Rattle.demands.specs.Chip.{Channel, ofChannel, registerOf}
+use Rattle.demands.specs.Chip.Channel.{A, B}
+use Rattle.demands.specs.Clocks.{sideOf, clocksOf, pulsedBy}
+use Rattle.demands.specs.Delivery.{commands}
+use Rattle.demands.proofs.Laws.EachRegister.{by-register}
+use Rattle.demands.proofs.Laws.Run.{feedOf}
+
+-- a pulse, to an enabled receiver: RxD as it stands after the event
+abbrev pub pulseTo : Channel → Front → Event → ℕ → Feed
+pulseTo ch f e levels =
+    pick (sideOf ch f .enabled && pulsedBy receives ch f e) (Feeds.Pulse (hasBit levels (ofChannel ch 6 7)) (settingOf (sideOf ch f))) Feeds.Nothing
+
+abbrev pub handsTo : Channel → Front → Event → Feed
+handsTo ch f ChipReset = Feeds.ChipReset
+handsTo ch f (Read n) = pick (eqb n (registerOf ch 3)) Feeds.Read Feeds.Nothing
+handsTo ch f (Write n byte) = pick (commands ch n byte) (commandFeed (sideOf ch f) byte) Feeds.Nothing
+handsTo ch f Acknowledge = Feeds.Nothing
+handsTo ch f (Pins levels) = pulseTo ch f (Pins levels) levels
+handsTo ch f Tick = pulseTo ch f Tick (f .inputs .levels)
+
+-- ---- reads and writes, by the register's number ----
+
+abbrev FeedsRead : Front → ℕ → Type 0
+FeedsRead f n = (handedAfter f (Read n) .a ≡ handsTo A f (Read n)) × (handedAfter f (Read n) .b ≡ handsTo B f (Read n))
+
+read-above : (f : Front) (n : ℕ) → 15 < n → FeedsRead f n
+unfolding handedAfter registerAbove15 pick
+read-above f n h = rw (lt-ltb 15 n h, ne-eqb n 3 (omega arith), ne-eqb n 11 (omega arith)) (refl, refl)
+
+read-feeds : (f : Front) (n : ℕ) → FeedsRead f n
+unfolding handedAfter registerAbove15 forbiddenRead forbiddenCommand settingNotModelled frontStepped registerRead sideRead pick
+read-feeds f n =
+    by-register (FeedsRead f) (refl, refl) (refl, refl) (refl, refl) (refl, refl) (refl, refl) (refl, refl) (refl, refl) (refl, refl)
+    (refl, refl) (refl, refl) (refl, refl) (refl, refl) (refl, refl) (refl, refl) (refl, refl) (refl, refl) (read-above f) n
+
+-- neither receiver is handed anything
+abbrev Idle : Handed → Type 0
+Idle h = (h .a ≡ Feeds.Nothing) × (h .b ≡ Feeds.Nothing)
+
+abbrev FeedsWrite : Front → ℕ → ℕ → Type 0
+FeedsWrite f n byte =
+    (handedAfter f (Write n byte) .a ≡ handsTo A f (Write n byte)) × (handedAfter f (Write n byte) .b ≡ handsTo B f (Write n byte))
+
+write-above : (f : Front) (n byte : ℕ) → 15 < n → FeedsWrite f n byte
+unfolding handedAfter registerAbove15 pick
+write-above f n byte h = rw (lt-ltb 15 n h, ne-eqb n 2 (omega arith), ne-eqb n 10 (omega arith)) (refl, refl)
+
+write-feeds : (f : Front) (n byte : ℕ) → FeedsWrite f n byte
+unfolding handedAfter registerAbove15 forbiddenRead forbiddenCommand settingNotModelled writeNotModelled frontStepped registerWritten sideWritten pick
+write-feeds f n byte =
+    by-register (λ (k : ℕ). FeedsWrite f k byte)
+    (pick-all Idle (modeNotModelled (f .a) byte) _ _ (refl, refl) (refl, refl)) (refl, refl) (command-a (commandForbidden byte) refl) (refl, refl)
+    (refl, refl) (refl, refl) (refl, refl) (refl, refl)
+    (pick-all Idle (modeNotModelled (f .b) byte) _ _ (refl, refl) (refl, refl)) (refl, refl) (command-b (commandForbidden byte) refl) (refl, refl)
+    (refl, refl) (pick-all Idle (opcrNotModelled byte) _ _ (refl, refl) (refl, refl)) (refl, refl) (refl, refl)
+    (λ k above. write-above f k byte above) n
+  where
+    command-a : (t : Bool) → commandForbidden byte ≡ t → FeedsWrite f 2 byte
+    command-a true e = rw e (refl, refl)
+    command-a false e = rw e (refl, refl)
+
+    command-b : (t : Bool) → commandForbidden byte ≡ t → FeedsWrite f 10 byte
+    command-b true e = rw e (refl, refl)
+    command-b false e = rw e (refl, refl)
+
+-- ---- pin events and ticks ----
+
+pick-both : {X : Type 0} (s t : Bool) (x y : X) → pick s (pick t x y) y ≡ pick (s && t) x y
+unfolding pick
+pick-both true t x y = refl
+pick-both false t x y = refl
+
+pins-feed : (ch : Channel) (f : Front) (levels : ℕ) → feedOf ch (handedAfter f (Pins levels)) ≡ handsTo ch f (Pins levels)
+unfolding handedAfter registerAbove15 forbiddenRead forbiddenCommand settingNotModelled frontStepped levelsMoved clockedOf clockedWith sideClocked lineOf pulsedBy clocksOf movedOf pinsOfA pinsOfB pick
+pins-feed A f levels = pick-both (f .a .enabled) (pulsedBy receives A f (Pins levels)) _ _
+pins-feed B f levels = pick-both (f .b .enabled) (pulsedBy receives B f (Pins levels)) _ _
+
+tick-feed : (ch : Channel) (f : Front) → feedOf ch (handedAfter f Tick) ≡ handsTo ch f Tick
+unfolding handedAfter registerAbove15 forbiddenRead forbiddenCommand settingNotModelled frontStepped clockedOf clockedWith sideClocked lineOf pulsedBy clocksOf pinsOfA pinsOfB pick
+tick-feed A f = pick-both (f .a .enabled) (pulsedBy receives A f Tick) _ _
+tick-feed B f = pick-both (f .b .enabled) (pulsedBy receives B f Tick) _ _
+
+-- ---- any event ----
+
+pub hands : (ch : Channel) (f : Front) (e : Event) → feedOf ch (handedAfter f e) ≡ handsTo ch f e
+unfolding handedAfter registerAbove15 forbiddenRead forbiddenCommand settingNotModelled frontStepped pick
+hands A f ChipReset = refl
+hands B f ChipReset = refl
+hands A f (Read n) = read-feeds f n .0
+hands B f (Read n) = read-feeds f n .1
+hands A f (Write n byte) = write-feeds f n byte .0
+hands B f (Write n byte) = write-feeds f n byte .1
+hands A f Acknowledge = refl
+hands B f Acknowledge = refl
+hands ch f (Pins levels) = pins-feed ch f levels
+hands ch f Tick = tick-feed ch f

@@ -1,0 +1,194 @@
+-- "Eleven cases, one proof. One table, one statement, checked by the definitions": a row is a set-up, the events, what public answer to look at, and what
+-- it must be. Cases 3 to 6 look at what the frame request answers and writes. Assumes nothing.
+use Prim.Native.Nat.{ℕ, zero, suc, _+_, _*_}
+use mathlib.Core.Bool.{Bool, true, false, _&&_}
+use mathlib.Core.List.{List, [], _∷_, _++_}
+use lib.Dec.{eqb}
+use lib.ListN.{getD, replicate}
+use Rattle.format.specs.Pick.{pick}
+use Rattle.format.specs.Digits.{bit}
+use Rattle.format.specs.Format.{formatOf}
+use Rattle.frame.specs.Levels.{frame}
+use Rattle.events.specs.declared.events.Event.{Event}
+use Rattle.events.specs.declared.events.Event.the-variants.{Read, Write, Pins, Tick}
+use Rattle.chip.specs.Lists.{Seen}
+use Rattle.demands.specs.Chip.{Chip}
+use Rattle.demands.specs.Demand1.{Request}
+
+-- ---- what is looked at ----
+
+-- of an answer to an event
+pub data Look : Type 0 where
+  byte txda txdb op : Look
+
+abbrev pub seen : Look → Seen → ℕ
+seen byte x = x .byte
+seen txda x = bit (x .lines .txda)
+seen txdb x = bit (x .lines .txdb)
+seen op x = x .lines .op
+
+-- of a frame request: its number, the pulses it answers, how many of the levels it wrote are high, the level in the middle of bit i, and the number
+-- that w bits after the start bit make, the lowest first
+pub data Asked : Type 0 where
+  number pulses highs : Asked
+  middle value : ℕ → Asked
+
+abbrev pub sum : List ℕ → ℕ
+sum [] = 0
+sum (x ∷ xs) = x + sum xs
+
+-- bit i lasts from pulse 16i to 16i + 15
+abbrev pub middleOf : List ℕ → ℕ → ℕ
+middleOf space i = getD space (16 * i + 8) 0
+
+abbrev pub valueFrom : ℕ → ℕ → List ℕ → ℕ
+valueFrom zero i space = 0
+valueFrom (suc w) i space = middleOf space i + 2 * valueFrom w (suc i) space
+
+-- a space of 192 zeros is lent: "at most 192"
+abbrev pub lent : List ℕ
+lent = replicate 192 0
+
+abbrev pub asked : Asked → Request → ℕ → ℕ → ℕ → ℕ
+asked number r mr1 mr2 x = r mr1 mr2 x lent .0 .number
+asked pulses r mr1 mr2 x = r mr1 mr2 x lent .0 .length .0
+asked highs r mr1 mr2 x = sum (r mr1 mr2 x lent .1)
+asked (middle i) r mr1 mr2 x = middleOf (r mr1 mr2 x lent .1) i
+asked (value w) r mr1 mr2 x = valueFrom w 1 (r mr1 mr2 x lent .1)
+
+-- ---- rows ----
+
+pub data Row : Type 0 where
+  -- the fresh device ("the state after a chip reset with all pins high"), these events, then this one
+  shows : List Event → Event → Look → ℕ → Row
+  -- MR1, MR2 and a byte
+  asks : ℕ → ℕ → ℕ → Asked → ℕ → Row
+
+unfoldable pub holds : Chip → Request → Row → Bool
+holds c r (shows es e look x) = eqb (seen look (c 255 es e)) x
+holds c r (asks mr1 mr2 character look x) = eqb (asked look r mr1 mr2 character) x
+
+unfoldable pub allHold : Chip → Request → List Row → Bool
+allHold c r [] = true
+allHold c r (x ∷ xs) = holds c r x && allHold c r xs
+
+-- ---- the set-ups ----
+
+-- pulses of receiver A on rising IP4, with RxDA at these levels and every other pin high
+unfoldable pub heard : List Bool → List Event
+heard [] = []
+heard (level ∷ ls) = Pins (pick level 239 175) ∷ Pins (pick level 255 191) ∷ heard ls
+
+-- "Receiver only": MR1 19, MR2 7, CSR code 14, and the receiver enabled; then one high
+abbrev pub listening : List Event
+listening = Write 0 19 ∷ Write 0 7 ∷ Write 1 238 ∷ Write 2 1 ∷ heard (true ∷ [])
+
+abbrev pub arrives : ℕ → List Event
+arrives x = heard (frame true (formatOf 19) 7 x)
+
+abbrev pub fourArrive : List Event
+fourArrive = listening ++ arrives 1 ++ arrives 2 ++ arrives 3 ++ arrives 4
+
+-- the low at p and those to p+8
+abbrev pub starts : List Event
+starts = heard (replicate 9 false)
+
+-- the fifth
+abbrev pub fiveArrive : List Event
+fiveArrive = fourArrive ++ arrives 5
+
+-- transmitter A on code 11, MR1 19, MR2 7, and 85 to send: its start comes with tick 24
+abbrev pub sends : List Event
+sends = Write 0 19 ∷ Write 0 7 ∷ Write 1 187 ∷ Write 2 4 ∷ Write 3 85 ∷ []
+
+-- as TxDA has it in the middle of bit i
+abbrev pub middleSent : ℕ → ℕ → Row
+middleSent i level = shows (sends ++ replicate (24 * (16 * i + 9)) Tick) (Read 1) txda level
+
+-- "Counter on ticks/16, phase 0, preload 3", and a start; "Timer on ticks, preload 2, start"
+abbrev pub counting : List Event
+counting = Write 4 48 ∷ Write 6 0 ∷ Write 7 3 ∷ Read 14 ∷ []
+
+abbrev pub timing : List Event
+timing = Write 4 96 ∷ Write 6 0 ∷ Write 7 2 ∷ Read 14 ∷ []
+
+-- ---- the table ----
+
+-- "Fresh: SRA 0, IVR 15, OP 255, TxD high."
+abbrev pub case1 : List Row
+case1 = shows [] (Read 1) byte 0 ∷ shows [] (Read 12) byte 15 ∷ shows [] (Read 1) op 255 ∷ shows [] (Read 1) txda 1 ∷ shows [] (Read 1) txdb 1 ∷ []
+
+-- "Register 0: write 19, 7; read 7; command 16; read 19, 7, 7."
+abbrev pub case2 : List Row
+case2 =
+    let es : List Event = Write 0 19 ∷ Write 0 7 ∷ [] in
+    let fs : List Event = es ++ Read 0 ∷ Write 2 16 ∷ [] in
+    shows es (Read 0) byte 7 ∷ shows fs (Read 0) byte 19 ∷ shows (fs ++ Read 0 ∷ []) (Read 0) byte 7 ∷ shows (fs ++ Read 0 ∷ Read 0 ∷ []) (Read 0) byte 7 ∷ []
+
+-- "Stop code 0: 9 (8 bits), 17 (5); 7: 16, 24; 15: 32, 32.": in the frame of 0 without parity only the stop is high
+abbrev pub case3 : List Row
+case3 = asks 19 0 0 highs 9 ∷ asks 16 0 0 highs 17 ∷ asks 19 7 0 highs 16 ∷ asks 16 7 0 highs 24 ∷ asks 19 15 0 highs 32 ∷ asks 16 15 0 highs 32 ∷ []
+
+-- "85, MR1 19, MR2 7: 0101010101, 160 pulses, 3,840 ticks at code 11.": asked for, and sent; so many ticks after its start the shifter is empty
+abbrev pub case4 : List Row
+case4 =
+    asks 19 7 85 number 0
+    ∷ asks 19 7 85 (middle 0) 0
+    ∷ asks 19 7 85 (middle 1) 1
+    ∷ asks 19 7 85 (middle 2) 0
+    ∷ asks 19 7 85 (middle 3) 1
+    ∷ asks 19 7 85 (middle 4) 0
+    ∷ asks 19 7 85 (middle 5) 1
+    ∷ asks 19 7 85 (middle 6) 0
+    ∷ asks 19 7 85 (middle 7) 1
+    ∷ asks 19 7 85 (middle 8) 0
+    ∷ asks 19 7 85 (middle 9) 1
+    ∷ asks 19 7 85 pulses 160
+    ∷ middleSent 0 0
+    ∷ middleSent 1 1
+    ∷ middleSent 2 0
+    ∷ shows (sends ++ replicate (24 + 3839) Tick) (Read 1) byte 4
+    ∷ shows (sends ++ replicate (24 + 3840) Tick) (Read 1) byte 12
+    ∷ []
+
+-- "65, 7 bits: even parity bit 0, odd 1.": after the start bit and seven data bits
+abbrev pub case5 : List Row
+case5 = asks 2 7 65 (middle 8) 0 ∷ asks 6 7 65 (middle 8) 1 ∷ []
+
+-- "255 with 5 bits: data 31.": the stop follows at once
+abbrev pub case6 : List Row
+case6 = asks 16 7 255 (value 5) 31 ∷ asks 16 7 255 pulses 120 ∷ []
+
+-- "Receiver only, 1, 2, 3, 4 arrive: SR 3; next start: SR 19; 5 arrives: reads 1, 2, 3, 5."
+abbrev pub case7 : List Row
+case7 =
+    shows fourArrive (Read 1) byte 3
+    ∷ shows (fourArrive ++ starts) (Read 1) byte 19
+    ∷ shows fiveArrive (Read 3) byte 1
+    ∷ shows (fiveArrive ++ Read 3 ∷ []) (Read 3) byte 2
+    ∷ shows (fiveArrive ++ Read 3 ∷ Read 3 ∷ []) (Read 3) byte 3
+    ∷ shows (fiveArrive ++ Read 3 ∷ Read 3 ∷ Read 3 ∷ []) (Read 3) byte 5
+    ∷ []
+
+-- "Four arrive unread, receiver reset: SR 0, read 0."
+abbrev pub case8 : List Row
+case8 = shows (fourArrive ++ Write 2 32 ∷ []) (Read 1) byte 0 ∷ shows (fourArrive ++ Write 2 32 ∷ []) (Read 3) byte 0 ∷ []
+
+-- "Low 8 pulses, high at p+8: nothing. Low at p+8: a start.": with the line high from then on no character comes, or one does, of ones
+abbrev pub case9 : List Row
+case9 =
+    shows (listening ++ heard (replicate 8 false ++ replicate 200 true)) (Read 1) byte 0
+    ∷ shows (listening ++ heard (replicate 9 false ++ replicate 200 true)) (Read 1) byte 1
+    ∷ shows (listening ++ heard (replicate 9 false ++ replicate 200 true)) (Read 3) byte 255
+    ∷ []
+
+-- "Counter on ticks/16, phase 0, preload 3: ISR bit 3 after 48 ticks, not 47."
+abbrev pub case10 : List Row
+case10 = shows (counting ++ replicate 48 Tick) (Read 5) byte 8 ∷ shows (counting ++ replicate 47 Tick) (Read 5) byte 0 ∷ []
+
+-- "Timer on ticks, preload 2, start: ISR bit 3 after 4 ticks, not 3."
+abbrev pub case11 : List Row
+case11 = shows (timing ++ replicate 4 Tick) (Read 5) byte 8 ∷ shows (timing ++ replicate 3 Tick) (Read 5) byte 0 ∷ []
+
+abbrev pub table : List Row
+table = case1 ++ case2 ++ case3 ++ case4 ++ case5 ++ case6 ++ case7 ++ case8 ++ case9 ++ case10 ++ case11

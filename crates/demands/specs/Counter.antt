@@ -1,0 +1,114 @@
+-- Demand 2: ".. counter .. follow the Motorola manuals as document 01 fixes them.": the counter/timer from a start on, where ticks or the pin IP2
+-- pulse it (its other clocks are the transmitters': crate timer). Assumes nothing.
+use Prim.Native.Nat.{ℕ, suc, _+_, _*_, _-_, _<_, _≤_, _/_, _%_}
+use mathlib.Core.Path.{_≡_}
+use mathlib.Core.Bool.{Bool, true, false, not, _&&_, _||_}
+use mathlib.Core.List.{List, [], _∷_, _++_}
+use lib.Dec.{eqb, leb}
+use Rattle.format.specs.Pick.{pick}
+use Rattle.format.specs.Digits.{bit}
+use Rattle.bytes.specs.Bytes.{hasBit}
+use Rattle.inputs.specs.Inputs.{risesOf}
+use Rattle.counting.specs.Counting.{modeOf, isTimer, tickPulses, edgePulses}
+use Rattle.timer.specs.Counts.{pulsesOf}
+use Rattle.events.specs.declared.events.Event.{Event}
+use Rattle.events.specs.declared.events.Event.the-variants.{ChipReset, Read, Write, Acknowledge, Pins, Tick}
+use Rattle.demands.specs.Chip.{Chip, andThen, over, shows, linesAfter}
+use Rattle.demands.specs.Registers.{opcrThen, acrAfter}
+
+-- "6, 7 .. preload high, low"
+abbrev pub preloadThen : ℕ → Event → ℕ
+preloadThen x ChipReset = 0
+preloadThen x (Read n) = x
+preloadThen x (Write n byte) = pick (eqb n 6) (byte * 256 + x % 256) (pick (eqb n 7) (x / 256 * 256 + byte) x)
+preloadThen x Acknowledge = x
+preloadThen x (Pins levels) = x
+preloadThen x Tick = x
+
+abbrev pub preloadAfter : List Event → ℕ
+preloadAfter es = over preloadThen 0 es
+
+-- ---- the pulses of its clock ----
+
+-- the ticks and the rising edges of IP2 since a chip reset, the pins' levels, and how many pulses they make in a mode
+pub record Elapsed : Type 0 where
+  pub ticks : ℕ
+  pub edges : ℕ
+  pub levels : ℕ
+  pub pulses : ℕ
+
+-- "ACR 6-4: 0-3 counter on rising IP2, .. ticks/16; 4-7 timer on rising IP2, IP2/16, ticks, ticks/16. Both /16 phases always run, from 0 at a chip
+-- reset."
+unfoldable pub elapsedThen : ℕ → Elapsed → Event → Elapsed
+elapsedThen mode x ChipReset = record { ticks = 0; edges = 0; levels = x .levels; pulses = 0 }
+elapsedThen mode x (Read n) = x
+elapsedThen mode x (Write n byte) = x
+elapsedThen mode x Acknowledge = x
+elapsedThen mode x (Pins levels) =
+    pick (risesOf (x .levels) levels 2)
+    (record {
+      ticks = x .ticks;
+      edges = suc (x .edges);
+      levels = levels;
+      pulses = x .pulses + bit (edgePulses mode (eqb (suc (x .edges) % 16) 0));
+    })
+    (record { ticks = x .ticks; edges = x .edges; levels = levels; pulses = x .pulses })
+elapsedThen mode x Tick =
+    record {
+      ticks = suc (x .ticks);
+      edges = x .edges;
+      levels = x .levels;
+      pulses = x .pulses + bit (tickPulses mode (eqb (suc (x .ticks) % 16) 0));
+    }
+
+abbrev pub pulsesAfter : ℕ → ℕ → List Event → ℕ
+pulsesAfter mode levels es = over (elapsedThen mode) (record { ticks = 0; edges = 0; levels = levels; pulses = 0 }) es .pulses
+
+-- ---- the statement ----
+
+-- no chip reset, no other mode or preload, no start and no stop
+abbrev pub leavesCounter : Event → Bool
+leavesCounter ChipReset = false
+leavesCounter (Read n) = not (eqb n 14) && not (eqb n 15)
+leavesCounter (Write n byte) = not (eqb n 4) && (not (eqb n 6) && not (eqb n 7))
+leavesCounter Acknowledge = true
+leavesCounter (Pins levels) = true
+leavesCounter Tick = true
+
+abbrev pub allOf : (Event → Bool) → List Event → Bool
+allOf is [] = true
+allOf is (e ∷ es) = is e && allOf is es
+
+-- After these events a start, and then those, which leave the counter alone.
+abbrev pub started : List Event → List Event → List Event
+started es fs = es ++ Read 14 ∷ fs
+
+-- the pulses that its clock has had since the start
+abbrev pub since : ℕ → ℕ → List Event → List Event → ℕ
+since mode levels es fs = pulsesAfter mode levels (started es fs) - pulsesAfter mode levels es
+
+-- a mode that ACR 6-4 have chosen, whose clock is not a transmitter's; preloads are made of bytes
+pub record Set (mode : ℕ) (es fs : List Event) : Type 0 where
+  pub chosen : modeOf (acrAfter es) ≡ mode
+  pub clock : (mode ≡ 1 → ⊥) × (mode ≡ 2 → ⊥)
+  pub preload : preloadAfter es < 65536
+  pub left : allOf leavesCounter fs ≡ true
+
+pub record Counter (c : Chip) : Type 0 where
+  -- "Each pulse takes 1 from the count, modulo 65,536"; "Counter: start loads the preload and runs"
+  pub count : (levels mode : ℕ) (es fs : List Event) → Set mode es fs → isTimer mode ≡ false
+      → shows c levels (started es fs) 6 * 256 + shows c levels (started es fs) 7 ≡ (preloadAfter es + 65535 * since mode levels es fs) % 65536
+  -- "reaching 0 is terminal", so a preload of 0 stands for 65,536; "terminal sets ISR bit 3"
+  pub terminal : (levels mode : ℕ) (es fs : List Event) → Set mode es fs → isTimer mode ≡ false
+      → hasBit (shows c levels (started es fs) 5) 3 ≡ (hasBit (shows c levels es 5) 3 || leb (pulsesOf (preloadAfter es)) (since mode levels es fs))
+  -- "Timer: always runs; terminal toggles and reloads; a toggle to high sets ISR bit 3; start reloads and drives the output high, setting no bit"
+  pub toggles : (levels mode : ℕ) (es fs : List Event) → Set mode es fs → isTimer mode ≡ true
+      → hasBit (shows c levels (started es fs) 5) 3
+      ≡ (hasBit (shows c levels es 5) 3 || leb (2 * pulsesOf (preloadAfter es)) (since mode levels es fs))
+  -- "OPCR 3-2 = 01 puts the timer output on OP3"
+  pub output : (levels mode : ℕ) (es fs : List Event) → Set mode es fs → isTimer mode ≡ true → eqb (over opcrThen 0 (started es fs) / 4 % 4) 1 ≡ true
+      → hasBit (linesAfter c levels (started es fs) .op) 3 ≡ eqb (since mode levels es fs / pulsesOf (preloadAfter es) % 2) 0
+  -- "stop halts and clears the bit"; of a timer it "clears the bit only"
+  pub clears : (levels : ℕ) (es : List Event) → hasBit (shows c levels (andThen es (Read 15)) 5) 3 ≡ false
+  pub halts : (levels : ℕ) (es fs : List Event) → isTimer (modeOf (acrAfter es)) ≡ false → allOf leavesCounter fs ≡ true
+      → (shows c levels (es ++ Read 15 ∷ fs) 6 ≡ shows c levels es 6) × (shows c levels (es ++ Read 15 ∷ fs) 7 ≡ shows c levels es 7)
