@@ -1,6 +1,9 @@
--- The three demands, proved.
+-- The three demands and the eleven cases, proved, and the laws that they go by.
 pub mod Laws
 pub mod Reached
 pub mod Demand1
+pub mod Registers
+pub mod Interrupts
+pub mod Outputs
 pub mod Delivery
 pub mod Cases
