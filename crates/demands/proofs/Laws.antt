@@ -7,6 +7,8 @@ pub mod Told
 pub mod Ports
 pub mod Looks
 pub mod Pins
+pub mod Timers
+pub mod Counting
 pub mod Feeds
 pub mod Lines
 pub mod Buffer

@@ -5,5 +5,6 @@ pub mod Demand1
 pub mod Registers
 pub mod Interrupts
 pub mod Outputs
+pub mod Counter
 pub mod Delivery
 pub mod Cases

@@ -8,6 +8,7 @@ pub mod Demand1
 pub mod Registers
 pub mod Counter
 pub mod Delivery
+pub mod Received
 pub mod ReadBack
 pub mod Pulses
 pub mod Cases
