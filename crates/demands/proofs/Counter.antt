@@ -1,30 +1,31 @@
--- The counter/timer as it is shown, from a start on: it is where the pulses since then bring it, and crate timer's theorems say where that is; and
--- after a stop. Assumes nothing.
-use Prim.Native.Nat.{ℕ, _+_, _%_, _*_, _/_}
+-- The counter/timer as it is shown: what loads it and the pulses since bring it where crate timer's theorems say; a counter that does not run stays,
+-- and a stop leaves a timer as it is but for its bit. Assumes nothing.
+use Prim.Native.Nat.{ℕ, _+_, _%_, _*_, _-_, _<_, _/_}
 use mathlib.Core.Path.{_≡_, refl, sym, _∙_, ap}
-use mathlib.Core.Bool.{Bool, true, false, not, _||_}
+use mathlib.Core.Bool.{Bool, true, false, not, _||_, and-eq-true-iff}
 use mathlib.Core.List.{List, _∷_, _++_}
 use native.Mathlib.Omega.{arith}
 use lib.Dec.{eqb, leb}
+use borrow.Author.Tests.{eqb-true}
 use Rattle.format.specs.Pick.{pick}
 use Rattle.format.proofs.Laws.Pick.{pick-all}
 use Rattle.counting.specs.declared.counting.Timer.{Timer}
 use Rattle.counting.specs.Counting.{modeOf, isTimer}
 use Rattle.timer.specs.Timer.{stoppedOf}
 use Rattle.timer.specs.Counts.{pulsesOf}
-use Rattle.timer.proofs.Counts.{counts, toggles}
 use Rattle.bytes.specs.Bytes.{hasBit}
 use Rattle.outputs.specs.Outputs.{drivenOp3}
+use Rattle.front.specs.declared.front.Front.{Front}
 use Rattle.front.specs.Front.{frontAt}
 use Rattle.reads.specs.Reads.{frontData}
 use Rattle.events.specs.declared.events.Event.{Event}
-use Rattle.events.specs.declared.events.Event.the-variants.{Read}
+use Rattle.events.specs.declared.events.Event.the-variants.{Read, Write}
 use Rattle.answers.specs.Answers.{timerLevel}
 use Rattle.duart.specs.Duart.{stepOf}
 use Rattle.demands.specs.Chip.{over, chipOf, andThen, shows, linesAfter}
 use Rattle.demands.specs.Clocks.{frontThen, frontAfter}
 use Rattle.demands.specs.Registers.{opcrThen, acrAfter}
-use Rattle.demands.specs.Counter.{preloadAfter, leavesCounter, allOf, started, since, Set, Counter}
+use Rattle.demands.specs.Counter.{preloadAfter, leavesCounter, allOf, loads, since, Loaded, countShown, Counter}
 use Rattle.demands.proofs.Laws.Bits.{bit-3}
 use Rattle.demands.proofs.Laws.Run.{runAt, run-front, run-sound, front-byte}
 use Rattle.demands.proofs.Laws.Fronts.{front-read}
@@ -33,7 +34,9 @@ use Rattle.demands.proofs.Laws.Ports.{opcr-told}
 use Rattle.demands.proofs.Laws.Looks.{chip, interrupts-shown}
 use Rattle.demands.proofs.Laws.Pins.{pins}
 use Rattle.demands.proofs.Laws.Timers.{preload-told}
-use Rattle.demands.proofs.Laws.Counting.{core, goes-told, halted-over, halted-first}
+use Rattle.demands.proofs.Laws.Counting.{not-true, acr-over}
+use Rattle.demands.proofs.Laws.Loads.{started-told, loaded-told, counter-count, counter-ready, timer-ready, timer-since}
+use Rattle.demands.proofs.Laws.Stops.{halted-over, halted-stop, halted-change, cleared, cleared-over, cleared-stop}
 
 -- ---- what is shown of it ----
 
@@ -46,7 +49,7 @@ count-shown levels es =
       front-byte (runAt levels es) 7 (run-sound levels es) (omega arith) refl refl,
     )
 
-count-whole : (levels : ℕ) (es : List Event) → shows chip levels es 6 * 256 + shows chip levels es 7 ≡ frontAfter levels es .timer .count
+count-whole : (levels : ℕ) (es : List Event) → countShown chip levels es ≡ frontAfter levels es .timer .count
 count-whole levels es = let bytes = count-shown levels es in omega arith
 
 ready-shown : (levels : ℕ) (es : List Event) → hasBit (shows chip levels es 5) 3 ≡ frontAfter levels es .timer .ready
@@ -63,42 +66,72 @@ output-shown levels es h m =
     let k = rw (opcr-told levels es) at h in
     pins levels es .op3 ∙ rw (k, m) (not-twice _)
 
--- ---- the laws of a start ----
+-- ---- the laws of a load ----
 
-count-law : (levels mode : ℕ) (es fs : List Event) → Set mode es fs → isTimer mode ≡ false
-    → shows chip levels (started es fs) 6 * 256 + shows chip levels (started es fs) 7 ≡ (preloadAfter es + 65535 * since mode levels es fs) % 65536
+low-preload : (levels mode : ℕ) (es fs : List Event) (load : Event) → Loaded mode es load fs → frontAfter levels es .timer .preload < 65536
+low-preload levels mode es fs load s = rw (preload-told levels es) at (s .preload)
+
+count-law : (levels mode : ℕ) (es fs : List Event) → Loaded mode es (Read 14) fs → isTimer mode ≡ false
+    → countShown chip levels (es ++ Read 14 ∷ fs) ≡ (preloadAfter es + 65535 * since mode levels es (Read 14) fs) % 65536
 count-law levels mode es fs s h =
-    let low = rw (preload-told levels es) at (s .preload) in
-    count-whole levels (started es fs)
-    ∙ ap (λ (t : Timer). t .count) (goes-told levels mode es fs s .told)
-    ∙ rw (preload-told levels es) (counts .count (core (frontAfter levels es .timer)) mode (since mode levels es fs) h low)
+    count-whole levels (es ++ Read 14 ∷ fs)
+    ∙ rw (preload-told levels es)
+    (counter-count mode _ _ _ _ (started-told levels mode es fs s) h (low-preload levels mode es fs (Read 14) s))
 
-terminal-law : (levels mode : ℕ) (es fs : List Event) → Set mode es fs → isTimer mode ≡ false
-    → hasBit (shows chip levels (started es fs) 5) 3
-    ≡ (hasBit (shows chip levels es 5) 3 || leb (pulsesOf (preloadAfter es)) (since mode levels es fs))
+terminal-law : (levels mode : ℕ) (es fs : List Event) → Loaded mode es (Read 14) fs → isTimer mode ≡ false
+    → hasBit (shows chip levels (es ++ Read 14 ∷ fs) 5) 3
+    ≡ (hasBit (shows chip levels es 5) 3 || leb (pulsesOf (preloadAfter es)) (since mode levels es (Read 14) fs))
 terminal-law levels mode es fs s h =
-    let low = rw (preload-told levels es) at (s .preload) in
-    ready-shown levels (started es fs)
-    ∙ ap (λ (t : Timer). t .ready) (goes-told levels mode es fs s .told)
-    ∙ rw (ready-shown levels es, preload-told levels es) (counts .sets (core (frontAfter levels es .timer)) mode (since mode levels es fs) h low)
+    ready-shown levels (es ++ Read 14 ∷ fs)
+    ∙ rw (ready-shown levels es, preload-told levels es)
+    (counter-ready mode _ _ _ _ (started-told levels mode es fs s) h (low-preload levels mode es fs (Read 14) s))
 
-toggles-law : (levels mode : ℕ) (es fs : List Event) → Set mode es fs → isTimer mode ≡ true
-    → hasBit (shows chip levels (started es fs) 5) 3
-    ≡ (hasBit (shows chip levels es 5) 3 || leb (2 * pulsesOf (preloadAfter es)) (since mode levels es fs))
-toggles-law levels mode es fs s h =
-    let low = rw (preload-told levels es) at (s .preload) in
-    ready-shown levels (started es fs)
-    ∙ ap (λ (t : Timer). t .ready) (goes-told levels mode es fs s .told)
-    ∙ rw (ready-shown levels es, preload-told levels es) (toggles .ready (core (frontAfter levels es .timer)) mode (since mode levels es fs) h low)
+reloads-law : (levels mode : ℕ) (es fs : List Event) (load : Event) → Loaded mode es load fs → isTimer mode ≡ true
+    → countShown chip levels (es ++ load ∷ fs)
+    ≡ (pulsesOf (preloadAfter es) - since mode levels es load fs % pulsesOf (preloadAfter es)) % 65536
+reloads-law levels mode es fs load s h =
+    let gone = timer-since mode _ _ _ _ (loaded-told levels mode es fs load s h) h (low-preload levels mode es fs load s) in
+    count-whole levels (es ++ load ∷ fs) ∙ rw (preload-told levels es, ← gone .loaded) (gone .gone .count)
 
-output-law : (levels mode : ℕ) (es fs : List Event) → Set mode es fs → isTimer mode ≡ true → eqb (over opcrThen 0 (started es fs) / 4 % 4) 1 ≡ true
-    → hasBit (linesAfter chip levels (started es fs) .op) 3 ≡ eqb (since mode levels es fs / pulsesOf (preloadAfter es) % 2) 0
-output-law levels mode es fs s h o =
-    let low = rw (preload-told levels es) at (s .preload) in
-    let g = goes-told levels mode es fs s in
-    output-shown levels (started es fs) o (ap isTimer (g .chosen) ∙ h)
-    ∙ ap (λ (t : Timer). t .output) (g .told)
-    ∙ rw (preload-told levels es) (toggles .output (core (frontAfter levels es .timer)) mode (since mode levels es fs) h low)
+toggles-law : (levels mode : ℕ) (es fs : List Event) (load : Event) → Loaded mode es load fs → isTimer mode ≡ true
+    → hasBit (shows chip levels (es ++ load ∷ fs) 5) 3
+    ≡ (hasBit (shows chip levels es 5) 3 || leb (2 * pulsesOf (preloadAfter es)) (since mode levels es load fs))
+toggles-law levels mode es fs load s h =
+    ready-shown levels (es ++ load ∷ fs)
+    ∙ rw (ready-shown levels es, preload-told levels es)
+    (timer-ready mode _ _ _ _ (loaded-told levels mode es fs load s h) h (low-preload levels mode es fs load s))
+
+output-law : (levels mode : ℕ) (es fs : List Event) (load : Event) → Loaded mode es load fs → isTimer mode ≡ true
+    → eqb (over opcrThen 0 (es ++ load ∷ fs) / 4 % 4) 1 ≡ true
+    → hasBit (linesAfter chip levels (es ++ load ∷ fs) .op) 3 ≡ eqb (since mode levels es load fs / pulsesOf (preloadAfter es) % 2) 0
+output-law levels mode es fs load s h o =
+    let went = loaded-told levels mode es fs load s h in
+    let gone = timer-since mode _ _ _ _ went h (low-preload levels mode es fs load s) in
+    output-shown levels (es ++ load ∷ fs) o (ap isTimer (went .goes .chosen) ∙ h)
+    ∙ rw (preload-told levels es, ← gone .loaded) (gone .gone .output)
+
+-- ---- a counter that does not run ----
+
+halts-law : (levels : ℕ) (es fs : List Event) → isTimer (modeOf (acrAfter es)) ≡ false → allOf leavesCounter fs ≡ true
+    → countShown chip levels (es ++ Read 15 ∷ fs) ≡ countShown chip levels es
+unfolding over
+halts-law levels es fs m l =
+    let f = frontAfter levels es in
+    count-whole levels (es ++ Read 15 ∷ fs)
+    ∙ rw (count-whole levels es, over-append frontThen (frontAt levels) es (Read 15 ∷ fs))
+    (halted-over (f .timer .count) _ fs l (halted-stop f (rw (acr-told levels es) at m)) .count)
+
+changed-law : (levels mode byte : ℕ) (es fs : List Event) → loads mode es (Write 4 byte) ≡ true → isTimer mode ≡ false
+    → allOf leavesCounter fs ≡ true → countShown chip levels (es ++ Write 4 byte ∷ fs) ≡ preloadAfter es
+unfolding over
+changed-law levels mode byte es fs c m l =
+    let f = frontAfter levels es in
+    let both = and-eq-true-iff (eqb (modeOf byte) mode) _ .0 c in
+    let same : modeOf byte ≡ mode = eqb-true (modeOf byte) mode (both .0) in
+    let other : eqb (modeOf (f .acr)) (modeOf byte) ≡ false = rw (same, ← acr-told levels es) (not-true _ (both .1)) in
+    count-whole levels (es ++ Write 4 byte ∷ fs)
+    ∙ rw (preload-told levels es, over-append frontThen (frontAt levels) es (Write 4 byte ∷ fs))
+    (halted-over (f .timer .preload) _ fs l (halted-change f byte other (rw same m)) .count)
 
 -- ---- a stop ----
 
@@ -112,27 +145,49 @@ clears-law levels es =
     ready-shown levels (andThen es (Read 15))
     ∙ rw (over-then frontThen (frontAt levels) es (Read 15), front-read (frontAfter levels es) 15) (stopped-ready (frontAfter levels es .timer) _)
 
-halts-law : (levels : ℕ) (es fs : List Event) → isTimer (modeOf (acrAfter es)) ≡ false → allOf leavesCounter fs ≡ true
-    → (shows chip levels (es ++ Read 15 ∷ fs) 6 ≡ shows chip levels es 6) × (shows chip levels (es ++ Read 15 ∷ fs) 7 ≡ shows chip levels es 7)
+runs-law : (levels : ℕ) (es fs : List Event) → isTimer (modeOf (acrAfter es)) ≡ true → allOf leavesCounter fs ≡ true
+    → (countShown chip levels (es ++ Read 15 ∷ fs) ≡ countShown chip levels (es ++ fs))
+    × (eqb (over opcrThen 0 (es ++ fs) / 4 % 4) 1 ≡ true
+    → hasBit (linesAfter chip levels (es ++ Read 15 ∷ fs) .op) 3 ≡ hasBit (linesAfter chip levels (es ++ fs) .op) 3)
 unfolding over
-halts-law levels es fs m l =
-    let before = count-shown levels es in
-    let after = count-shown levels (es ++ Read 15 ∷ fs) in
-    (after .0 ∙ ap (λ (n : ℕ). n / 256) same ∙ sym (before .0), after .1 ∙ ap (λ (n : ℕ). n % 256) same ∙ sym (before .1))
+runs-law levels es fs m l = (count, output)
   where
-    same : frontAfter levels (es ++ Read 15 ∷ fs) .timer .count ≡ frontAfter levels es .timer .count
+    h : isTimer (modeOf (frontAfter levels es .acr)) ≡ true
+    h = rw (acr-told levels es) at m
+
+    isTimer-of : Front → Bool
+    isTimer-of f = isTimer (modeOf (f .acr))
+
+    same : cleared (frontAfter levels (es ++ Read 15 ∷ fs)) ≡ cleared (frontAfter levels (es ++ fs))
     same =
-        let f = frontAfter levels es in
-        let h = rw (acr-told levels es) at m in
-        rw (over-append frontThen (frontAt levels) es (Read 15 ∷ fs)) (halted-over (f .timer .count) _ fs l (halted-first f h) .count)
+        rw (over-append frontThen (frontAt levels) es (Read 15 ∷ fs), over-append frontThen (frontAt levels) es fs)
+        (cleared-over _ _ fs l (cleared-stop (frontAfter levels es) h))
+
+    timer : isTimer-of (frontAfter levels (es ++ fs)) ≡ true
+    timer = rw (over-append frontThen (frontAt levels) es fs, acr-over (frontAfter levels es) fs l) h
+
+    opcr : eqb (over opcrThen 0 (es ++ fs) / 4 % 4) 1 ≡ true → eqb (over opcrThen 0 (es ++ Read 15 ∷ fs) / 4 % 4) 1 ≡ true
+    opcr o = rw (over-append opcrThen 0 es (Read 15 ∷ fs), ← over-append opcrThen 0 es fs) o
+
+    count : countShown chip levels (es ++ Read 15 ∷ fs) ≡ countShown chip levels (es ++ fs)
+    count = count-whole levels (es ++ Read 15 ∷ fs) ∙ ap (λ (f : Front). f .timer .count) same ∙ sym (count-whole levels (es ++ fs))
+
+    output : eqb (over opcrThen 0 (es ++ fs) / 4 % 4) 1 ≡ true
+        → hasBit (linesAfter chip levels (es ++ Read 15 ∷ fs) .op) 3 ≡ hasBit (linesAfter chip levels (es ++ fs) .op) 3
+    output o =
+        output-shown levels (es ++ Read 15 ∷ fs) (opcr o) (ap isTimer-of same ∙ timer)
+        ∙ ap (λ (f : Front). f .timer .output) same ∙ sym (output-shown levels (es ++ fs) o timer)
 
 pub counter : Counter (chipOf stepOf)
 counter =
     record {
       count = count-law;
       terminal = terminal-law;
+      halts = halts-law;
+      changed = changed-law;
+      reloads = reloads-law;
       toggles = toggles-law;
       output = output-law;
       clears = clears-law;
-      halts = halts-law;
+      runsOn = runs-law;
     }

@@ -46,7 +46,7 @@ use Rattle.demands.proofs.Laws.Buffer.{overrun-shown, read-given, four-
 
 -- ---- what the program read ----
 
-abbrev isRead : Feed → Bool
+abbrev pub isRead : Feed → Bool
 isRead Feeds.Nothing = false
 isRead (Feeds.Pulse level f) = false
 isRead (Feeds.Command e t) = false
@@ -67,7 +67,7 @@ unfolding pick
 read-picked true = refl
 read-picked false = refl
 
-read-handed : (ch : Channel) (f : Front) (e : Event) → isRead (handsTo ch f e) ≡ readsBuffer ch e
+pub read-handed : (ch : Channel) (f : Front) (e : Event) → isRead (handsTo ch f e) ≡ readsBuffer ch e
 unfolding commandFeed
 read-handed ch f ChipReset = refl
 read-handed ch f (Read n) = read-picked (eqb n (registerOf ch 3))
@@ -77,7 +77,7 @@ read-handed ch f (Pins levels) = pick-all (λ (x : Feed). isRead x ≡ false) _ 
 read-handed ch f Tick = pick-all (λ (x : Feed). isRead x ≡ false) _ _ _ refl refl
 
 -- the receiver after one event more
-receiver-then : (ch : Channel) (levels : ℕ) (es : List Event) (e : Event)
+pub receiver-then : (ch : Channel) (levels : ℕ) (es : List Event) (e : Event)
     → receiverAt ch (runAt levels (andThen es e)) ≡ fedOf (receiverAt ch (runAt levels es)) (handsTo ch (frontAfter levels es) e) .receiver
 receiver-then ch levels es e =
     rw (

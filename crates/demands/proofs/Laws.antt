@@ -7,8 +7,16 @@ pub mod Told
 pub mod Ports
 pub mod Looks
 pub mod Pins
+pub mod Restarts
+pub mod Clocks
 pub mod Timers
 pub mod Counting
+pub mod Loads
+pub mod Stops
 pub mod Feeds
 pub mod Lines
 pub mod Buffer
+pub mod Oldest
+pub mod Clearing
+pub mod Sums
+pub mod Follows

@@ -5,6 +5,8 @@ pub mod Demand1
 pub mod Registers
 pub mod Interrupts
 pub mod Outputs
+pub mod Pulses
 pub mod Counter
 pub mod Delivery
+pub mod Received
 pub mod Cases

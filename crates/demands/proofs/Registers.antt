@@ -110,7 +110,7 @@ on-from : (levels : ℕ) (es fs : List Event) (e g : Event)
 unfolding chipOf after
 on-from levels es fs e g = rw (run-append (resetAt levels) es (e ∷ fs))
 
-same-after : (levels : ℕ) (es fs : List Event) (e g : Event) → stepOf (runAt levels es) e .state ≡ runAt levels es
+pub same-after : (levels : ℕ) (es fs : List Event) (e g : Event) → stepOf (runAt levels es) e .state ≡ runAt levels es
     → chip levels (es ++ e ∷ fs) g ≡ chip levels (es ++ fs) g
 unfolding chipOf
 same-after levels es fs e g h = on-from levels es fs e g ∙ rw (h, run-append (resetAt levels) es fs)

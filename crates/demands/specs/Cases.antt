@@ -1,6 +1,7 @@
 -- "Eleven cases, one proof. One table, one statement, checked by the definitions": a row is a set-up, the events, what public answer to look at, and what
 -- it must be. Cases 3 to 6 look at what the frame request answers and writes. Assumes nothing.
 use Prim.Native.Nat.{ℕ, zero, suc, _+_, _*_}
+use mathlib.Core.Path.{_≡_}
 use mathlib.Core.Bool.{Bool, true, false, _&&_}
 use mathlib.Core.List.{List, [], _∷_, _++_}
 use lib.Dec.{eqb}
@@ -59,13 +60,17 @@ asked (value w) r mr1 mr2 x = valueFrom w 1 (r mr1 mr2 x lent .1)
 -- ---- rows ----
 
 pub data Row : Type 0 where
-  -- the fresh device ("the state after a chip reset with all pins high"), these events, then this one
+  -- the fresh device ("the state after a chip reset with all pins high"), these events, then this one, which is accepted
   shows : List Event → Event → Look → ℕ → Row
   -- MR1, MR2 and a byte
   asks : ℕ → ℕ → ℕ → Asked → ℕ → Row
 
+-- accepted, and as it must be
+abbrev pub right : Look → ℕ → Seen → Bool
+right look x s = eqb (s .number) 0 && eqb (seen look s) x
+
 unfoldable pub holds : Chip → Request → Row → Bool
-holds c r (shows es e look x) = eqb (seen look (c 255 es e)) x
+holds c r (shows es e look x) = right look x (c 255 es e)
 holds c r (asks mr1 mr2 character look x) = eqb (asked look r mr1 mr2 character) x
 
 unfoldable pub allHold : Chip → Request → List Row → Bool
@@ -97,13 +102,13 @@ starts = heard (replicate 9 false)
 abbrev pub fiveArrive : List Event
 fiveArrive = fourArrive ++ arrives 5
 
--- transmitter A on code 11, MR1 19, MR2 7, and 85 to send: its start comes with tick 24
+-- transmitter A on code 11, MR1 19, MR2 7, and 85 to send: its start comes with tick 24; another is written then
 abbrev pub sends : List Event
-sends = Write 0 19 ∷ Write 0 7 ∷ Write 1 187 ∷ Write 2 4 ∷ Write 3 85 ∷ []
+sends = Write 0 19 ∷ Write 0 7 ∷ Write 1 187 ∷ Write 2 4 ∷ Write 3 85 ∷ replicate 24 Tick ++ Write 3 85 ∷ []
 
--- as TxDA has it in the middle of bit i
-abbrev pub middleSent : ℕ → ℕ → Row
-middleSent i level = shows (sends ++ replicate (24 * (16 * i + 9)) Tick) (Read 1) txda level
+-- TxDA so many ticks after the start
+abbrev pub sent : ℕ → ℕ → Row
+sent ticks level = shows (sends ++ replicate ticks Tick) (Read 1) txda level
 
 -- "Counter on ticks/16, phase 0, preload 3", and a start; "Timer on ticks, preload 2, start"
 abbrev pub counting : List Event
@@ -129,7 +134,7 @@ case2 =
 abbrev pub case3 : List Row
 case3 = asks 19 0 0 highs 9 ∷ asks 16 0 0 highs 17 ∷ asks 19 7 0 highs 16 ∷ asks 16 7 0 highs 24 ∷ asks 19 15 0 highs 32 ∷ asks 16 15 0 highs 32 ∷ []
 
--- "85, MR1 19, MR2 7: 0101010101, 160 pulses, 3,840 ticks at code 11.": asked for, and sent; so many ticks after its start the shifter is empty
+-- "85, MR1 19, MR2 7: 0101010101, 160 pulses, 3,840 ticks at code 11.": asked for
 abbrev pub case4 : List Row
 case4 =
     asks 19 7 85 number 0
@@ -144,12 +149,11 @@ case4 =
     ∷ asks 19 7 85 (middle 8) 0
     ∷ asks 19 7 85 (middle 9) 1
     ∷ asks 19 7 85 pulses 160
-    ∷ middleSent 0 0
-    ∷ middleSent 1 1
-    ∷ middleSent 2 0
-    ∷ shows (sends ++ replicate (24 + 3839) Tick) (Read 1) byte 4
-    ∷ shows (sends ++ replicate (24 + 3840) Tick) (Read 1) byte 12
     ∷ []
+
+-- and sent: a bit lasts 384 ticks, and the next character starts 3,840 ticks after the first. (All its levels: Sending.)
+abbrev pub case4sent : List Row
+case4sent = sent 192 0 ∷ sent 576 1 ∷ sent 960 0 ∷ sent 1344 1 ∷ sent 3839 1 ∷ sent 3840 0 ∷ []
 
 -- "65, 7 bits: even parity bit 0, odd 1.": after the start bit and seven data bits
 abbrev pub case5 : List Row
@@ -163,6 +167,7 @@ case6 = asks 16 7 255 (value 5) 31 ∷ asks 16 7 255 pulses 120 ∷ []
 abbrev pub case7 : List Row
 case7 =
     shows fourArrive (Read 1) byte 3
+    ∷ shows (fourArrive ++ heard (replicate 8 false)) (Read 1) byte 3
     ∷ shows (fourArrive ++ starts) (Read 1) byte 19
     ∷ shows fiveArrive (Read 3) byte 1
     ∷ shows (fiveArrive ++ Read 3 ∷ []) (Read 3) byte 2
@@ -191,4 +196,8 @@ abbrev pub case11 : List Row
 case11 = shows (timing ++ replicate 4 Tick) (Read 5) byte 8 ∷ shows (timing ++ replicate 3 Tick) (Read 5) byte 0 ∷ []
 
 abbrev pub table : List Row
-table = case1 ++ case2 ++ case3 ++ case4 ++ case5 ++ case6 ++ case7 ++ case8 ++ case9 ++ case10 ++ case11
+table = case1 ++ case2 ++ case3 ++ case4 ++ case4sent ++ case5 ++ case6 ++ case7 ++ case8 ++ case9 ++ case10 ++ case11
+
+-- all hold
+abbrev pub Cases : Chip → Request → Type 0
+Cases c r = allHold c r table ≡ true

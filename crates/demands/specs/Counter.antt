@@ -1,6 +1,6 @@
 -- Demand 2: ".. counter .. follow the Motorola manuals as document 01 fixes them.": the counter/timer from a start on, where ticks or the pin IP2
 -- pulse it (its other clocks are the transmitters': crate timer). Assumes nothing.
-use Prim.Native.Nat.{ℕ, suc, _+_, _*_, _-_, _<_, _≤_, _/_, _%_}
+use Prim.Native.Nat.{ℕ, suc, _+_, _*_, _-_, _<_, _/_, _%_}
 use mathlib.Core.Path.{_≡_}
 use mathlib.Core.Bool.{Bool, true, false, not, _&&_, _||_}
 use mathlib.Core.List.{List, [], _∷_, _++_}
@@ -79,36 +79,58 @@ abbrev pub allOf : (Event → Bool) → List Event → Bool
 allOf is [] = true
 allOf is (e ∷ es) = is e && allOf is es
 
--- After these events a start, and then those, which leave the counter alone.
-abbrev pub started : List Event → List Event → List Event
-started es fs = es ++ Read 14 ∷ fs
+-- What loads it, after these events, in a mode: a start, or a write of ACR that changes bits 6-4 to it.
+abbrev pub loads : ℕ → List Event → Event → Bool
+loads mode es ChipReset = false
+loads mode es (Read n) = eqb n 14 && eqb (modeOf (acrAfter es)) mode
+loads mode es (Write n byte) = eqb n 4 && (eqb (modeOf byte) mode && not (eqb (modeOf (acrAfter es)) mode))
+loads mode es Acknowledge = false
+loads mode es (Pins levels) = false
+loads mode es Tick = false
 
--- the pulses that its clock has had since the start
-abbrev pub since : ℕ → ℕ → List Event → List Event → ℕ
-since mode levels es fs = pulsesAfter mode levels (started es fs) - pulsesAfter mode levels es
+-- the pulses that its clock has had since then
+abbrev pub since : ℕ → ℕ → List Event → Event → List Event → ℕ
+since mode levels es load fs = pulsesAfter mode levels (es ++ load ∷ fs) - pulsesAfter mode levels es
 
--- a mode that ACR 6-4 have chosen, whose clock is not a transmitter's; preloads are made of bytes
-pub record Set (mode : ℕ) (es fs : List Event) : Type 0 where
-  pub chosen : modeOf (acrAfter es) ≡ mode
+-- After these events it is loaded in a mode whose clock is not a transmitter's, and then comes what leaves it alone. Preloads are made of bytes.
+pub record Loaded (mode : ℕ) (es : List Event) (load : Event) (fs : List Event) : Type 0 where
+  pub loaded : loads mode es load ≡ true
   pub clock : (mode ≡ 1 → ⊥) × (mode ≡ 2 → ⊥)
   pub preload : preloadAfter es < 65536
   pub left : allOf leavesCounter fs ≡ true
 
+-- the count as registers 6 and 7 show it
+abbrev pub countShown : Chip → ℕ → List Event → ℕ
+countShown c levels es = shows c levels es 6 * 256 + shows c levels es 7
+
 pub record Counter (c : Chip) : Type 0 where
   -- "Each pulse takes 1 from the count, modulo 65,536"; "Counter: start loads the preload and runs"
-  pub count : (levels mode : ℕ) (es fs : List Event) → Set mode es fs → isTimer mode ≡ false
-      → shows c levels (started es fs) 6 * 256 + shows c levels (started es fs) 7 ≡ (preloadAfter es + 65535 * since mode levels es fs) % 65536
-  -- "reaching 0 is terminal", so a preload of 0 stands for 65,536; "terminal sets ISR bit 3"
-  pub terminal : (levels mode : ℕ) (es fs : List Event) → Set mode es fs → isTimer mode ≡ false
-      → hasBit (shows c levels (started es fs) 5) 3 ≡ (hasBit (shows c levels es 5) 3 || leb (pulsesOf (preloadAfter es)) (since mode levels es fs))
-  -- "Timer: always runs; terminal toggles and reloads; a toggle to high sets ISR bit 3; start reloads and drives the output high, setting no bit"
-  pub toggles : (levels mode : ℕ) (es fs : List Event) → Set mode es fs → isTimer mode ≡ true
-      → hasBit (shows c levels (started es fs) 5) 3
-      ≡ (hasBit (shows c levels es 5) 3 || leb (2 * pulsesOf (preloadAfter es)) (since mode levels es fs))
-  -- "OPCR 3-2 = 01 puts the timer output on OP3"
-  pub output : (levels mode : ℕ) (es fs : List Event) → Set mode es fs → isTimer mode ≡ true → eqb (over opcrThen 0 (started es fs) / 4 % 4) 1 ≡ true
-      → hasBit (linesAfter c levels (started es fs) .op) 3 ≡ eqb (since mode levels es fs / pulsesOf (preloadAfter es) % 2) 0
-  -- "stop halts and clears the bit"; of a timer it "clears the bit only"
-  pub clears : (levels : ℕ) (es : List Event) → hasBit (shows c levels (andThen es (Read 15)) 5) 3 ≡ false
+  pub count : (levels mode : ℕ) (es fs : List Event) → Loaded mode es (Read 14) fs → isTimer mode ≡ false
+      → countShown c levels (es ++ Read 14 ∷ fs) ≡ (preloadAfter es + 65535 * since mode levels es (Read 14) fs) % 65536
+  -- "reaching 0 is terminal", so a preload of 0 stands for 65,536; "terminal sets ISR bit 3, counting goes on"
+  pub terminal : (levels mode : ℕ) (es fs : List Event) → Loaded mode es (Read 14) fs → isTimer mode ≡ false
+      → hasBit (shows c levels (es ++ Read 14 ∷ fs) 5) 3
+      ≡ (hasBit (shows c levels es 5) 3 || leb (pulsesOf (preloadAfter es)) (since mode levels es (Read 14) fs))
+  -- "stop halts and clears the bit"; "A change of ACR 6-4 reloads, .. setting no bit, and runs exactly in timer modes."
   pub halts : (levels : ℕ) (es fs : List Event) → isTimer (modeOf (acrAfter es)) ≡ false → allOf leavesCounter fs ≡ true
-      → (shows c levels (es ++ Read 15 ∷ fs) 6 ≡ shows c levels es 6) × (shows c levels (es ++ Read 15 ∷ fs) 7 ≡ shows c levels es 7)
+      → countShown c levels (es ++ Read 15 ∷ fs) ≡ countShown c levels es
+  pub changed : (levels mode byte : ℕ) (es fs : List Event) → loads mode es (Write 4 byte) ≡ true → isTimer mode ≡ false
+      → allOf leavesCounter fs ≡ true → countShown c levels (es ++ Write 4 byte ∷ fs) ≡ preloadAfter es
+  -- "Timer: always runs; terminal toggles and reloads": started, or by a change of mode
+  pub reloads : (levels mode : ℕ) (es fs : List Event) (load : Event) → Loaded mode es load fs → isTimer mode ≡ true
+      → countShown c levels (es ++ load ∷ fs)
+      ≡ (pulsesOf (preloadAfter es) - since mode levels es load fs % pulsesOf (preloadAfter es)) % 65536
+  -- "a toggle to high sets ISR bit 3; start reloads and drives the output high, setting no bit"
+  pub toggles : (levels mode : ℕ) (es fs : List Event) (load : Event) → Loaded mode es load fs → isTimer mode ≡ true
+      → hasBit (shows c levels (es ++ load ∷ fs) 5) 3
+      ≡ (hasBit (shows c levels es 5) 3 || leb (2 * pulsesOf (preloadAfter es)) (since mode levels es load fs))
+  -- "OPCR 3-2 = 01 puts the timer output on OP3"
+  pub output : (levels mode : ℕ) (es fs : List Event) (load : Event) → Loaded mode es load fs → isTimer mode ≡ true
+      → eqb (over opcrThen 0 (es ++ load ∷ fs) / 4 % 4) 1 ≡ true
+      → hasBit (linesAfter c levels (es ++ load ∷ fs) .op) 3 ≡ eqb (since mode levels es load fs / pulsesOf (preloadAfter es) % 2) 0
+  -- "stop clears the bit": of a counter and of a timer, which goes on as if there had been no stop ("stop clears the bit only")
+  pub clears : (levels : ℕ) (es : List Event) → hasBit (shows c levels (andThen es (Read 15)) 5) 3 ≡ false
+  pub runsOn : (levels : ℕ) (es fs : List Event) → isTimer (modeOf (acrAfter es)) ≡ true → allOf leavesCounter fs ≡ true
+      → (countShown c levels (es ++ Read 15 ∷ fs) ≡ countShown c levels (es ++ fs))
+      × (eqb (over opcrThen 0 (es ++ fs) / 4 % 4) 1 ≡ true
+      → hasBit (linesAfter c levels (es ++ Read 15 ∷ fs) .op) 3 ≡ hasBit (linesAfter c levels (es ++ fs) .op) 3)

@@ -5,7 +5,7 @@
 -- was read and what is held from the answers. Assumes nothing.
 use Prim.Native.Nat.{ℕ, zero, suc, _/_, _%_}
 use mathlib.Core.Path.{_≡_}
-use mathlib.Core.Bool.{Bool, true, false, not, _&&_}
+use mathlib.Core.Bool.{Bool, false, not, _&&_}
 use mathlib.Core.List.{List, [], _∷_, _++_, map}
 use lib.Dec.{eqb}
 use lib.ListN.{replicate}
@@ -14,10 +14,9 @@ use Rattle.format.specs.Format.{formatOf}
 use Rattle.character.specs.declared.character.Character.{Character}
 use Rattle.character.specs.declared.character.Marks.{Marks}
 use Rattle.assembly.specs.State.{hunting}
-use Rattle.assembly.specs.declared.state.Setting.{Setting}
 use Rattle.sampler.specs.Lines.{Line, hears, arrivals}
 use Rattle.sampler.specs.Lines.Line.{pulse, enable, disable}
-use Rattle.receiver.specs.Delivery.{Entry, Ledger, opened, meets, dropAll, clears, pulseWritten, asArrived, live, known, fatedBy}
+use Rattle.receiver.specs.Delivery.{Ledger, opened, meets, dropAll, clears, pulseWritten, asArrived, live, known, fatedBy}
 use Rattle.receiver.specs.Delivery.Fate.{WasRead, Held}
 use Rattle.clocks.specs.Channel.{isSixteen}
 use Rattle.clocks.specs.Pulses.Side.{receives}

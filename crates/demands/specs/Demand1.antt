@@ -3,9 +3,8 @@
 -- answer is each routine's contract, which asks nothing of a caller: docs/PROMISES.md. Assumes nothing.
 use Prim.Native.Nat.{ℕ, _<_, _≤_}
 use mathlib.Core.Path.{_≡_}
-use mathlib.Core.Bool.{Bool, true, false, not, _||_}
+use mathlib.Core.Bool.{true, false, _||_}
 use mathlib.Core.List.{List, _++_}
-use lib.Dec.{eqb}
 use lib.ListN.{length, drop}
 use Rattle.format.specs.Format.{mr1NotModelled, mr2NotModelled}
 use Rattle.format.specs.Pick.{pick}
@@ -18,7 +17,7 @@ use Rattle.events.specs.declared.events.Event.the-variants.{Read, Write}
 use Rattle.device.specs.declared.device.Device.{Device}
 use Rattle.device.specs.Device.{isSoundOf}
 use Rattle.chip.specs.Table.{Step, Table}
-use Rattle.demands.specs.Chip.{Channel, ofChannel, registerOf}
+use Rattle.demands.specs.Chip.{Channel, registerOf}
 use Rattle.demands.specs.Clocks.{sideOf}
 
 -- a way to answer a frame request: MR1, MR2, a byte, and the space that it is lent; the answer, and what the space holds then

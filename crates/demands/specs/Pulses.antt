@@ -3,7 +3,7 @@
 use Prim.Native.Nat.{ℕ, suc, _*_, _<_, _/_, _%_}
 use mathlib.Core.Path.{_≡_}
 use mathlib.Core.Bool.{Bool, true, false, _&&_}
-use mathlib.Core.List.{List}
+use mathlib.Core.List.{List, _∷_, _++_}
 use lib.Dec.{eqb, ltb}
 use Rattle.format.specs.Pick.{pick}
 use Rattle.dividers.specs.Rates.{periodOf}
@@ -17,7 +17,7 @@ use Rattle.events.specs.declared.events.Event.the-variants.{ChipReset, Read, Wr
 use Rattle.demands.specs.Chip.{Channel, ofChannel, registerOf, andThen, over}
 use Rattle.demands.specs.Told.{levelsAfter, programmed}
 use Rattle.demands.specs.Registers.{acrAfter}
-use Rattle.demands.specs.Counter.{preloadAfter, pulsesAfter, started, since, Set}
+use Rattle.demands.specs.Counter.{preloadAfter, pulsesAfter, since, Loaded}
 
 -- whether an event pulses a side of a channel, after a chip reset with these levels on the pins and then these events
 abbrev pub Pulsing : Type 0
@@ -54,6 +54,14 @@ isTick Acknowledge = false
 isTick (Pins levels) = false
 isTick Tick = true
 
+abbrev pub clocks : Event → Bool
+clocks ChipReset = false
+clocks (Read n) = false
+clocks (Write n byte) = false
+clocks Acknowledge = false
+clocks (Pins levels) = true
+clocks Tick = true
+
 -- "receiver on a rising edge (A IP4, B IP2), transmitter on a falling edge (A IP3, B IP5)"
 abbrev pub edgeOf : Side → Channel → ℕ → ℕ → Bool
 edgeOf receives ch before x = risesOf before x (ofChannel ch 4 2)
@@ -74,18 +82,20 @@ codeAfter side ch es = codeOf side (programmed ch es .csr)
 -- ---- the statement ----
 
 pub record Pulses (pulsed : Pulsing) : Type 0 where
+  -- only a tick or a pin event pulses anything: "(a start or a change of ACR gives no pulse)"
+  pub only : (side : Side) (ch : Channel) (levels : ℕ) (es : List Event) (e : Event) → clocks e ≡ false → pulsed side ch levels es e ≡ false
   -- codes 0 to 12: at each period-th tick since the restart, and at no other event
   pub fixed : (side : Side) (ch : Channel) (levels : ℕ) (es : List Event) (e : Event) → codeAfter side ch es < 13
       → pulsed side ch levels es e ≡ (isTick e && eqb (suc (ticksAfter ch es) % periodOf (eqb (acrAfter es / 128) 1) (codeAfter side ch es) .0) 0)
   -- "14 (16X), 15 (1X)": its pin's edge
   pub pin : (side : Side) (ch : Channel) (levels : ℕ) (es : List Event) (e : Event) → 13 < codeAfter side ch es
       → pulsed side ch levels es e ≡ edgeBy side ch (levelsAfter levels es) e
-  -- "13: the timer's toggle to high (a start or a change of ACR gives no pulse), none in counter mode."
+  -- "13: the timer's toggle to high .., none in counter mode."
   pub counter : (side : Side) (ch : Channel) (levels : ℕ) (es : List Event) (e : Event) → codeAfter side ch es ≡ 13 → isTimer (modeOf (acrAfter es)) ≡ false
       → pulsed side ch levels es e ≡ false
-  -- after a start it comes with every second terminal: the event pulses the timer, and so many pulses have come with it
-  pub timer : (side : Side) (ch : Channel) (levels mode : ℕ) (es fs : List Event) (e : Event) → codeAfter side ch (started es fs) ≡ 13
-      → Set mode es (andThen fs e) → isTimer mode ≡ true
-      → pulsed side ch levels (started es fs) e
-      ≡ (ltb (pulsesAfter mode levels (started es fs)) (pulsesAfter mode levels (started es (andThen fs e)))
-      && eqb (suc (since mode levels es fs) % (2 * pulsesOf (preloadAfter es))) 0)
+  -- once it is loaded the toggle to high comes with every second terminal: the event pulses the timer, and so many pulses have come with it
+  pub timer : (side : Side) (ch : Channel) (levels mode : ℕ) (es fs : List Event) (load e : Event) → codeAfter side ch (es ++ load ∷ fs) ≡ 13
+      → Loaded mode es load (andThen fs e) → isTimer mode ≡ true
+      → pulsed side ch levels (es ++ load ∷ fs) e
+      ≡ (ltb (pulsesAfter mode levels (es ++ load ∷ fs)) (pulsesAfter mode levels (es ++ load ∷ andThen fs e))
+      && eqb (suc (since mode levels es load fs) % (2 * pulsesOf (preloadAfter es))) 0)

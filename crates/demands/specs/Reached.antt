@@ -13,7 +13,7 @@ use Rattle.device.specs.Device.{freshDevice, isSoundOf}
 use Rattle.chip.specs.Table.{Step}
 use Rattle.chip.specs.Sound.{after}
 use Rattle.chip.specs.Lists.{Seen, seenOf, allSeen}
-use Rattle.demands.specs.Chip.{Chip, chipOf, andThen}
+use Rattle.demands.specs.Chip.{Chip, chipOf}
 
 -- ---- the step ----
 

@@ -2,12 +2,11 @@
 -- themselves, over any list of events after a chip reset. Assumes nothing.
 use Prim.Native.Nat.{ℕ, suc, _/_, _%_}
 use mathlib.Core.Path.{_≡_}
-use mathlib.Core.Bool.{Bool, true, false, not, _&&_, _||_}
+use mathlib.Core.Bool.{Bool, true, false, _&&_, _||_}
 use mathlib.Core.List.{List, [], _∷_, _++_}
 use lib.Dec.{eqb, leb}
 use lib.ListN.{length}
 use Rattle.format.specs.Pick.{pick}
-use Rattle.character.specs.declared.character.Character.{Character}
 use Rattle.character.specs.declared.character.Marks.{Marks}
 use Rattle.character.specs.Character.{noMarks, orMarks}
 use Rattle.assembly.specs.declared.state.Sampler.{Sampler}
@@ -56,12 +55,7 @@ lastFrom c levels ch x before (e ∷ es) =
 
 -- ---- block errors ----
 
--- the marks of the oldest of those held
-abbrev pub oldestMarks : List Character → Marks
-oldestMarks [] = noMarks
-oldestMarks (c ∷ cs) = c .marks
-
--- where it stands in the ledger, counted from 1; 0 if none is held
+-- where the oldest of those held stands in the ledger, counted from 1; 0 if none is held
 abbrev pub oldestAt : ℕ → List Entry → ℕ
 oldestAt n [] = 0
 oldestAt n (entry c k Held ∷ l) = suc n
@@ -110,7 +104,7 @@ pub record Received (c : Chip) : Type 0 where
       → c levels (es ++ Read (registerOf ch 3) ∷ fs) e ≡ c levels (es ++ fs) e
   -- "Character errors: SR 7-5 show the oldest's marks, 0 if none."; "MR1: .. 5 block errors"
   pub character : (levels : ℕ) (ch : Channel) (es : List Event) → hasBit (programmed ch es .mr1) 5 ≡ false
-      → statusMarks c levels ch es ≡ oldestMarks (held c levels ch es)
+      → statusMarks c levels ch es ≡ oldestKnown (ledger ch levels es .entries)
   -- "Block: the marks, each bit ORed, of all that became oldest since command 4 or a chip reset."
   pub block : (levels : ℕ) (ch : Channel) (es : List Event) → hasBit (programmed ch es .mr1) 5 ≡ true
       → statusMarks c levels ch es ≡ sumsFrom ch levels noMarks [] es

@@ -4,7 +4,7 @@
 use Prim.Native.Nat.{ℕ, _+_, _*_, _-_, _<_, _/_, _%_}
 use mathlib.Core.Path.{_≡_}
 use mathlib.Core.Bool.{Bool, true, false, not}
-use mathlib.Core.List.{List, [], _∷_, _++_}
+use mathlib.Core.List.{List, _∷_, _++_}
 use lib.Dec.{eqb}
 use lib.Bits.{bitAnd, bitOr, bitXor}
 use Rattle.format.specs.Pick.{pick}
@@ -15,7 +15,7 @@ use Rattle.events.specs.declared.events.Event.{Event}
 use Rattle.events.specs.declared.events.Event.the-variants.{ChipReset, Read, Write, Acknowledge, Pins, Tick}
 use Rattle.chip.specs.Quiet.{onlyLooks}
 use Rattle.demands.specs.Chip.{Chip, Channel, ofChannel, registerOf, andThen, over, shows, statusBit, linesAfter}
-use Rattle.demands.specs.Told.{Programmed, lastWritten, levelsAfter, programmed}
+use Rattle.demands.specs.Told.{lastWritten, levelsAfter, programmed}
 
 -- ---- what the events tell of the ports ----
 

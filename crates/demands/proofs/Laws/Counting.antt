@@ -1,24 +1,21 @@
--- What an event that leaves the counter/timer alone does to it: the pulse that its clock has then, or none. So after a start and any list of them it
--- is where so many pulses bring it, and a counter that was stopped stays where it is. Assumes nothing.
+-- What an event that leaves the counter/timer alone does to it: the pulse that its clock has then, or none. So after any list of them it is where so
+-- many pulses bring it. Assumes nothing.
 use Prim.Native.Nat.{ℕ, suc, _+_, _-_, _≤_, _%_}
 use mathlib.Core.Path.{_≡_, refl, sym, _∙_, ap, subst}
 use mathlib.Core.Bool.{Bool, true, false, not, _&&_, and-eq-true-iff, true≢false}
 use mathlib.Core.List.{List, [], _∷_}
 use native.Mathlib.Omega.{arith}
 use native.Mathlib.Numerals.{add-one}
-use native.Mathlib.Nat.{add-zero, sub-self}
+use native.Mathlib.Nat.{add-zero}
 use lib.Dec.{eqb}
 use borrow.Author.Tests.{ne-eqb}
 use Rattle.format.specs.Digits.{bit}
 use Rattle.format.specs.Pick.{pick}
-use Rattle.format.proofs.Laws.Pick.{pick-all}
-use Rattle.counting.specs.declared.counting.Counted.{Counted}
 use Rattle.counting.specs.declared.counting.Timer.{Timer}
 use Rattle.counting.specs.Counting.{withPhases, modeOf, isTimer, countedDown, tickPulses, edgePulses, transmitterPulses}
 use Rattle.counting.specs.Counting.{counterPulsed, timerPulsed, pulsedBy}
-use Rattle.timer.specs.Timer.{tickedBy, edgedBy, startedOf, stoppedOf, transmittedBy}
+use Rattle.timer.specs.Timer.{tickedBy, edgedBy}
 use Rattle.timer.specs.Counts.{afterPulses}
-use Rattle.timer.proofs.Counts.{counts}
 use Rattle.timer.proofs.Sources.{leaves, sources}
 use Rattle.inputs.specs.Inputs.{risesOf, movedOf}
 use Rattle.front.specs.declared.front.Front.{Front}
@@ -29,9 +26,9 @@ use Rattle.events.specs.declared.events.Event.the-variants.{ChipReset, Read, Wr
 use Rattle.demands.specs.Chip.{over}
 use Rattle.demands.specs.Told.{lastWritten}
 use Rattle.demands.specs.Clocks.{frontThen, frontAfter}
-use Rattle.demands.specs.Counter.{Elapsed, elapsedThen, leavesCounter, allOf, pulsesAfter, started, Set}
-use Rattle.demands.proofs.Laws.Fronts.{frontRead, frontWritten, frontMoved, frontNext, front-next, front-read}
-use Rattle.demands.proofs.Laws.Told.{pick-with, over-append, acr-next, acr-told}
+use Rattle.demands.specs.Counter.{Elapsed, elapsedThen, leavesCounter, allOf}
+use Rattle.demands.proofs.Laws.Fronts.{frontRead, frontWritten, frontMoved, frontNext, front-next}
+use Rattle.demands.proofs.Laws.Told.{acr-next}
 use Rattle.demands.proofs.Laws.Timers.{Phased, pinsCounted, phased-next, phased-over}
 
 -- ---- the phases apart ----
@@ -53,14 +50,10 @@ core-pulsed t mode true = go (isTimer mode) (t .running) (eqb (countedDown (t .c
     go false true ends h r z = rw (h, r)
     go false false ends h r z = rw (h, r)
 
-core-started : (t : Timer) (mode : ℕ) → core (startedOf t mode) ≡ startedOf (core t) mode
-unfolding startedOf
-core-started t mode = pick-with core (isTimer mode) refl refl
-
 -- ---- an event that leaves the counter/timer alone ----
 
 -- a clock that is not a transmitter's
-abbrev Apart : ℕ → Type 0
+abbrev pub Apart : ℕ → Type 0
 Apart mode = (mode ≡ 1 → ⊥) × (mode ≡ 2 → ⊥)
 
 transmitted : (t : Timer) (mode : ℕ) (a b : Bool) → Apart mode → pulsedBy t mode (transmitterPulses mode a b) .timer ≡ t
@@ -88,18 +81,18 @@ pulses-next mode x (Pins levels) l = go (risesOf (x .levels) levels 2) refl
     go false e = rw e (sym (add-zero (x .pulses)))
 pulses-next mode x Tick l = refl
 
-not-true : (t : Bool) → not t ≡ true → t ≡ false
+pub not-true : (t : Bool) → not t ≡ true → t ≡ false
 not-true true h = sym h
 not-true false h = refl
 
 -- a read but of 14 and 15, a write but of 4, 6 and 7
-read-left : (f : Front) (n : ℕ) → leavesCounter (Read n) ≡ true → frontRead f n .timer ≡ f .timer
+pub read-left : (f : Front) (n : ℕ) → leavesCounter (Read n) ≡ true → frontRead f n .timer ≡ f .timer
 unfolding pick
 read-left f n l =
     let h = and-eq-true-iff (not (eqb n 14)) _ .0 l in
     rw (not-true (eqb n 14) (h .0), not-true (eqb n 15) (h .1))
 
-written-left : (f : Front) (n byte : ℕ) → leavesCounter (Write n byte) ≡ true → frontWritten f n byte .timer ≡ f .timer
+pub written-left : (f : Front) (n byte : ℕ) → leavesCounter (Write n byte) ≡ true → frontWritten f n byte .timer ≡ f .timer
 unfolding pick
 written-left f n byte l =
     let h = and-eq-true-iff (not (eqb n 4)) _ .0 l in
@@ -146,7 +139,7 @@ timer-next x f e p a l = rw (front-next f e) (go e l)
     go (Pins levels) l = ap core (transmitted _ (modeOf (f .acr)) _ _ a) ∙ counted-pins x f levels p
     go Tick l = ap core (transmitted _ (modeOf (f .acr)) _ _ a) ∙ counted-tick x f (f .inputs .levels) p
 
--- ---- from a start on ----
+-- ---- any list of them ----
 
 after-more : (mode : ℕ) (t : Timer) (k : ℕ) (pulse : Bool)
     → afterPulses pulsedBy mode t (k + bit pulse) ≡ pulsedBy (afterPulses pulsedBy mode t k) mode pulse .timer
@@ -155,7 +148,7 @@ after-more mode t k true = rw (add-one k)
 after-more mode t k false = rw (add-zero k, leaves .still)
 
 -- ACR stands
-acr-left : (f : Front) (e : Event) → leavesCounter e ≡ true → frontThen f e .acr ≡ f .acr
+pub acr-left : (f : Front) (e : Event) → leavesCounter e ≡ true → frontThen f e .acr ≡ f .acr
 unfolding pick
 acr-left f e l = acr-next f e ∙ go e l
   where
@@ -166,6 +159,13 @@ acr-left f e l = acr-next f e ∙ go e l
     go Acknowledge l = refl
     go (Pins levels) l = refl
     go Tick l = refl
+
+pub acr-over : (f : Front) (es : List Event) → allOf leavesCounter es ≡ true → over frontThen f es .acr ≡ f .acr
+unfolding over
+acr-over f [] l = refl
+acr-over f (e ∷ es) l =
+    let h = and-eq-true-iff (leavesCounter e) _ .0 l in
+    acr-over (frontThen f e) es (h .1) ∙ acr-left f e (h .0)
 
 -- a front whose counter/timer has gone on from t by the pulses since there were `base`
 pub record Goes (mode base : ℕ) (t : Timer) (x : Elapsed) (f : Front) : Type 0 where
@@ -192,7 +192,7 @@ goes-next mode base t x f e a l g =
       phased = phased-next mode x f e (g .phased);
     }
 
-goes-over : (mode base : ℕ) (t : Timer) (x : Elapsed) (f : Front) (es : List Event)
+pub goes-over : (mode base : ℕ) (t : Timer) (x : Elapsed) (f : Front) (es : List Event)
     → Apart mode → allOf leavesCounter es ≡ true → Goes mode base t x f → Goes mode base t (over (elapsedThen mode) x es) (over frontThen f es)
 unfolding over
 goes-over mode base t x f [] a l g = g
@@ -204,84 +204,6 @@ goes-over mode base t x f (e ∷ es) a l g =
 abbrev pub elapsedAt : ℕ → ℕ → List Event → Elapsed
 elapsedAt mode levels es = over (elapsedThen mode) (record { ticks = 0; edges = 0; levels = levels; pulses = 0 }) es
 
-phased-told : (mode levels : ℕ) (es : List Event) → Phased (elapsedAt mode levels es) (frontAfter levels es)
+pub phased-told : (mode levels : ℕ) (es : List Event) → Phased (elapsedAt mode levels es) (frontAfter levels es)
 unfolding frontAt
 phased-told mode levels es = phased-over mode _ (frontAt levels) es (record { ticks = refl; edges = refl; levels = refl })
-
--- the start itself
-goes-first : (mode : ℕ) (x : Elapsed) (f : Front) → modeOf (f .acr) ≡ mode → Phased x f
-    → Goes mode (x .pulses) (startedOf (core (f .timer)) mode) (elapsedThen mode x (Read 14)) (frontThen f (Read 14))
-unfolding afterPulses elapsedThen pick
-goes-first mode x f m p =
-    record {
-      more = omega arith;
-      chosen = ap modeOf (acr-next f (Read 14)) ∙ m;
-      told = rw (front-read f 14, m, sub-self) (core-started (f .timer) mode);
-      phased = phased-next mode x f (Read 14) p;
-    }
-
--- and what leaves it alone after it
-pub goes-told : (levels mode : ℕ) (es fs : List Event) → Set mode es fs
-    → Goes mode (pulsesAfter mode levels es) (startedOf (core (frontAfter levels es .timer)) mode) (elapsedAt mode levels (started es fs))
-    (frontAfter levels (started es fs))
-unfolding over
-goes-told levels mode es fs s =
-    rw (over-append (elapsedThen mode) _ es (Read 14 ∷ fs), over-append frontThen (frontAt levels) es (Read 14 ∷ fs))
-    (goes-over mode _ _ _ _ fs (s .clock) (s .left)
-    (goes-first mode (elapsedAt mode levels es) (frontAfter levels es) chosen (phased-told mode levels es)))
-  where
-    chosen : modeOf (frontAfter levels es .acr) ≡ mode
-    chosen = rw (← acr-told levels es) (s .chosen)
-
--- ---- a counter that was stopped ----
-
--- a counter that does not run takes no pulse, whatever its clock
-pulsed-halted : (t : Timer) (mode : ℕ) (pulse : Bool) → isTimer mode ≡ false → t .running ≡ false
-    → (pulsedBy t mode pulse .timer .running ≡ false) × (pulsedBy t mode pulse .timer .count ≡ t .count)
-pulsed-halted t mode true h r = rw (counts .halted t mode h r) (r, refl)
-pulsed-halted t mode false h r = rw (leaves .still t mode) (r, refl)
-
-counted-halted : (f : Front) (before : ℕ) (tick : Bool) → isTimer (modeOf (f .acr)) ≡ false → f .timer .running ≡ false
-    → (countedOf f before tick .timer .running ≡ false) × (countedOf f before tick .timer .count ≡ f .timer .count)
-unfolding countedOf tickedBy edgedBy
-counted-halted f before tick h r = pick-all Same tick _ _ (pulsed-halted _ _ _ h r) (pick-all Same _ _ _ (pulsed-halted _ _ _ h r) (r, refl))
-  where
-    Same : Counted → Type 0
-    Same c = (c .timer .running ≡ false) × (c .timer .count ≡ f .timer .count)
-
-pub record Halted (n : ℕ) (f : Front) : Type 0 where
-  pub chosen : isTimer (modeOf (f .acr)) ≡ false
-  pub stopped : f .timer .running ≡ false
-  pub count : f .timer .count ≡ n
-
-halted-next : (n : ℕ) (f : Front) (e : Event) → leavesCounter e ≡ true → Halted n f → Halted n (frontThen f e)
-halted-next n f e l h =
-    let stays = rw (← front-next f e) at (go e l) in
-    record { chosen = rw (acr-left f e l) (h .chosen); stopped = stays .0; count = stays .1 ∙ h .count }
-  where
-    clocked : (g : Front) (before : ℕ) (tick a b : Bool) → isTimer (modeOf (g .acr)) ≡ false → g .timer .running ≡ false
-        → (transmittedBy (countedOf g before tick .timer) (modeOf (g .acr)) a b .running ≡ false)
-        × (transmittedBy (countedOf g before tick .timer) (modeOf (g .acr)) a b .count ≡ g .timer .count)
-    clocked g before tick a b c r =
-        let first = counted-halted g before tick c r in
-        let last = pulsed-halted (countedOf g before tick .timer) (modeOf (g .acr)) (transmitterPulses (modeOf (g .acr)) a b) c (first .0) in
-        (last .0, last .1 ∙ first .1)
-
-    go : (e : Event) → leavesCounter e ≡ true → (frontNext f e .timer .running ≡ false) × (frontNext f e .timer .count ≡ f .timer .count)
-    go ChipReset l = absurd (true≢false (sym l))
-    go (Read n) l = rw (read-left f n l) (h .stopped, refl)
-    go (Write n byte) l = rw (written-left f n byte l) (h .stopped, refl)
-    go Acknowledge l = (h .stopped, refl)
-    go (Pins levels) l = clocked (frontMoved f levels) (f .inputs .levels) false _ _ (h .chosen) (h .stopped)
-    go Tick l = clocked f (f .inputs .levels) true _ _ (h .chosen) (h .stopped)
-
-pub halted-over : (n : ℕ) (f : Front) (es : List Event) → allOf leavesCounter es ≡ true → Halted n f → Halted n (over frontThen f es)
-unfolding over
-halted-over n f [] l h = h
-halted-over n f (e ∷ es) l h =
-    let both = and-eq-true-iff (leavesCounter e) _ .0 l in
-    halted-over n (frontThen f e) es (both .1) (halted-next n f e (both .0) h)
-
-pub halted-first : (f : Front) → isTimer (modeOf (f .acr)) ≡ false → Halted (f .timer .count) (frontThen f (Read 15))
-unfolding stoppedOf pick
-halted-first f h = rw (front-read f 15, h) (record { chosen = h; stopped = refl; count = refl })

@@ -1,0 +1,198 @@
+-- What loads the counter/timer, a start or a change of its mode, leaves it as a start leaves one with the same preload and the same ISR bit 3; and
+-- what leaves it alone then brings it where crate timer's theorems say, by the pulses since. Assumes nothing.
+use Prim.Native.Nat.{ℕ, zero, suc, _+_, _*_, _-_, _<_, _%_}
+use mathlib.Core.Path.{_≡_, refl, sym, _∙_, ap}
+use mathlib.Core.Bool.{true, false, _||_, and-eq-true-iff, true≢false}
+use mathlib.Core.List.{List, _∷_, _++_}
+use native.Mathlib.Omega.{arith}
+use native.Mathlib.Nat.{zero-add, sub-zero, sub-self, zero-mod, zero-div}
+use lib.Dec.{eqb, leb}
+use borrow.Author.Tests.{ne-eqb, eqb-true}
+use Rattle.format.specs.declared.counts.Pulses.{Pulses}
+use Rattle.format.specs.declared.counts.Ticks.{Ticks}
+use Rattle.format.specs.Pick.{pick}
+use Rattle.counting.specs.declared.counting.Timer.{Timer}
+use Rattle.counting.specs.Counting.{withCount, withRunning, withPhases, modeOf, isTimer, pulsedBy}
+use Rattle.timer.specs.Timer.{startedOf, modeChanged}
+use Rattle.timer.specs.Counts.{afterPulses, pulsesOf, Gone}
+use Rattle.timer.proofs.Counts.{counts, toggles, obeys}
+use Rattle.timer.proofs.Sources.{leaves}
+use Rattle.front.specs.declared.front.Front.{Front}
+use Rattle.front.specs.Front.{frontAt}
+use Rattle.events.specs.declared.events.Event.{Event}
+use Rattle.events.specs.declared.events.Event.the-variants.{ChipReset, Read, Write, Acknowledge, Pins, Tick}
+use Rattle.demands.specs.Chip.{over}
+use Rattle.demands.specs.Clocks.{frontThen, frontAfter}
+use Rattle.demands.specs.Counter.{Elapsed, elapsedThen, leavesCounter, allOf, pulsesAfter, loads, Loaded}
+use Rattle.demands.proofs.Laws.Fronts.{front-read, front-written}
+use Rattle.demands.proofs.Laws.Told.{pick-with, over-append, acr-next, acr-told}
+use Rattle.demands.proofs.Laws.Timers.{Phased, phased-next}
+use Rattle.demands.proofs.Laws.Counting.{core, Apart, Goes, goes-over, elapsedAt, phased-told, not-true}
+
+-- ---- what loads it ----
+
+-- a front whose counter/timer has gone on, by the pulses since there were `base`, from a start of one with the preload and the bit of `before`
+pub record Went (mode base : ℕ) (before : Timer) (x : Elapsed) (f : Front) : Type 0 where
+  pub from : Timer
+  pub preload : from .preload ≡ before .preload
+  pub ready : from .ready ≡ before .ready
+  pub goes : Goes mode base (startedOf from mode) x f
+
+core-started : (t : Timer) (mode : ℕ) → core (startedOf t mode) ≡ startedOf (core t) mode
+unfolding startedOf
+core-started t mode = pick-with core (isTimer mode) refl refl
+
+-- a start
+started-went : (mode : ℕ) (x : Elapsed) (f : Front) → modeOf (f .acr) ≡ mode → Phased x f
+    → Went mode (x .pulses) (f .timer) (elapsedThen mode x (Read 14)) (frontThen f (Read 14))
+unfolding afterPulses elapsedThen pick
+started-went mode x f m p =
+    record {
+      from = core (f .timer);
+      preload = refl;
+      ready = refl;
+      goes =
+          record {
+            more = omega arith;
+            chosen = ap modeOf (acr-next f (Read 14)) ∙ m;
+            told = rw (front-read f 14, m, sub-self) (core-started (f .timer) mode);
+            phased = phased-next mode x f (Read 14) p;
+          };
+    }
+
+-- a change to a timer mode: a timer that runs is as one that was started
+changed-went : (mode byte : ℕ) (x : Elapsed) (f : Front) → modeOf byte ≡ mode → eqb (modeOf (f .acr)) mode ≡ false → isTimer mode ≡ true → Phased x f
+    → Went mode (x .pulses) (f .timer) (elapsedThen mode x (Write 4 byte)) (frontThen f (Write 4 byte))
+unfolding afterPulses elapsedThen pick
+changed-went mode byte x f m d h p =
+    record {
+      from = from;
+      preload = refl;
+      ready = refl;
+      goes =
+          record {
+            more = omega arith;
+            chosen = ap modeOf (acr-next f (Write 4 byte)) ∙ m;
+            told = rw (front-written f 4 byte, sub-self, obeys .startsTimer from mode h) loaded;
+            phased = phased-next mode x f (Write 4 byte) p;
+          };
+    }
+  where
+    from : Timer
+    from = withRunning (core (f .timer)) true
+
+    loaded : core (modeChanged (f .timer) (f .acr) byte) ≡ withCount from (f .timer .preload) true
+    loaded = rw (obeys .changes (f .timer) (f .acr) byte (rw m d), m, h)
+
+-- ---- and what leaves it alone after it ----
+
+went-over : (mode base : ℕ) (before : Timer) (x : Elapsed) (f : Front) (fs : List Event) → Apart mode → allOf leavesCounter fs ≡ true
+    → Went mode base before x f → Went mode base before (over (elapsedThen mode) x fs) (over frontThen f fs)
+went-over mode base before x f fs a l w =
+    record { from = w .from; preload = w .preload; ready = w .ready; goes = goes-over mode base _ x f fs a l (w .goes) }
+
+-- since a chip reset
+abbrev pub WentBy : ℕ → ℕ → List Event → List Event → Type 0
+WentBy mode levels es fs =
+    Went mode (pulsesAfter mode levels es) (frontAfter levels es .timer) (elapsedAt mode levels (es ++ fs)) (frontAfter levels (es ++ fs))
+
+went-by : (levels mode : ℕ) (es fs : List Event) (load : Event) → Loaded mode es load fs
+    → Went mode (pulsesAfter mode levels es) (frontAfter levels es .timer) (elapsedThen mode (elapsedAt mode levels es) load)
+    (frontThen (frontAfter levels es) load)
+    → WentBy mode levels es (load ∷ fs)
+unfolding over
+went-by levels mode es fs load s w =
+    rw (over-append (elapsedThen mode) _ es (load ∷ fs), over-append frontThen (frontAt levels) es (load ∷ fs))
+    (went-over mode _ _ _ _ fs (s .clock) (s .left) w)
+
+-- from a start on
+pub started-told : (levels mode : ℕ) (es fs : List Event) → Loaded mode es (Read 14) fs → WentBy mode levels es (Read 14 ∷ fs)
+started-told levels mode es fs s =
+    let chosen : modeOf (frontAfter levels es .acr) ≡ mode = rw (← acr-told levels es) (eqb-true _ mode (s .loaded)) in
+    went-by levels mode es fs (Read 14) s (started-went mode _ (frontAfter levels es) chosen (phased-told mode levels es))
+
+-- from any load on, in a timer mode
+pub loaded-told : (levels mode : ℕ) (es fs : List Event) (load : Event) → Loaded mode es load fs → isTimer mode ≡ true
+    → WentBy mode levels es (load ∷ fs)
+loaded-told levels mode es fs load s h = went-by levels mode es fs load s (go load (s .loaded))
+  where
+    f : Front
+    f = frontAfter levels es
+
+    x : Elapsed
+    x = elapsedAt mode levels es
+
+    go : (load : Event) → loads mode es load ≡ true → Went mode (x .pulses) (f .timer) (elapsedThen mode x load) (frontThen f load)
+    go ChipReset l = absurd (true≢false (sym l))
+    go (Read n) l =
+        let both = and-eq-true-iff (eqb n 14) _ .0 l in
+        let chosen : modeOf (f .acr) ≡ mode = rw (← acr-told levels es) (eqb-true _ mode (both .1)) in
+        rw (eqb-true n 14 (both .0)) (started-went mode x f chosen (phased-told mode levels es))
+    go (Write n byte) l =
+        let both = and-eq-true-iff (eqb n 4) _ .0 l in
+        let change = and-eq-true-iff (eqb (modeOf byte) mode) _ .0 (both .1) in
+        let other : eqb (modeOf (f .acr)) mode ≡ false = rw (← acr-told levels es) (not-true _ (change .1)) in
+        rw (eqb-true n 4 (both .0)) (changed-went mode byte x f (eqb-true _ mode (change .0)) other h (phased-told mode levels es))
+    go Acknowledge l = absurd (true≢false (sym l))
+    go (Pins levels) l = absurd (true≢false (sym l))
+    go Tick l = absurd (true≢false (sym l))
+
+-- ---- where it is then ----
+
+-- a counter
+pub counter-count : (mode base : ℕ) (t : Timer) (x : Elapsed) (f : Front) → Went mode base t x f → isTimer mode ≡ false → t .preload < 65536
+    → f .timer .count ≡ (t .preload + 65535 * (x .pulses - base)) % 65536
+counter-count mode base t x f w h l =
+    ap (λ (u : Timer). u .count) (w .goes .told)
+    ∙ rw (← w .preload) (counts .count (w .from) mode (x .pulses - base) h (rw (w .preload) l))
+
+pub counter-ready : (mode base : ℕ) (t : Timer) (x : Elapsed) (f : Front) → Went mode base t x f → isTimer mode ≡ false → t .preload < 65536
+    → f .timer .ready ≡ (t .ready || leb (pulsesOf (t .preload)) (x .pulses - base))
+counter-ready mode base t x f w h l =
+    ap (λ (u : Timer). u .ready) (w .goes .told)
+    ∙ rw (← w .preload, ← w .ready) (counts .sets (w .from) mode (x .pulses - base) h (rw (w .preload) l))
+
+-- a timer
+pub timer-ready : (mode base : ℕ) (t : Timer) (x : Elapsed) (f : Front) → Went mode base t x f → isTimer mode ≡ true → t .preload < 65536
+    → f .timer .ready ≡ (t .ready || leb (2 * pulsesOf (t .preload)) (x .pulses - base))
+timer-ready mode base t x f w h l =
+    ap (λ (u : Timer). u .ready) (w .goes .told)
+    ∙ rw (← w .preload, ← w .ready) (toggles .ready (w .from) mode (x .pulses - base) h (rw (w .preload) l))
+
+preload-after : (mode : ℕ) (t : Timer) (k : ℕ) → afterPulses pulsedBy mode t k .preload ≡ t .preload
+unfolding afterPulses
+preload-after mode t zero = refl
+preload-after mode t (suc k) = leaves .pulses (afterPulses pulsedBy mode t k) mode .preload ∙ preload-after mode t k
+
+loads-preload : (preload : ℕ) → preload < 65536 → pulsesOf preload % 65536 ≡ preload
+unfolding pick
+loads-preload zero l = refl
+loads-preload (suc n) l = rw (ne-eqb (suc n) 0 (omega arith)) (omega arith)
+
+-- a timer that has this preload, and has had k pulses since it was loaded
+pub record Since (k preload : ℕ) (t : Timer) : Type 0 where
+  pub loaded : t .preload ≡ preload
+  pub gone : Gone k t
+
+since-start : (t : Timer) (mode k : ℕ) → isTimer mode ≡ true → t .preload < 65536
+    → Since k (t .preload) (afterPulses pulsedBy mode (startedOf t mode) k)
+since-start t mode k h l =
+    rw (obeys .startsTimer t mode h)
+    (record { loaded = preload-after mode first k; gone = rw (zero-add k) at (toggles .goes first mode 0 k h l loaded) })
+  where
+    first : Timer
+    first = withCount t (t .preload) true
+
+    loaded : Gone 0 first
+    loaded = record { count = rw (zero-mod, sub-zero) (sym (loads-preload (t .preload) l)); output = rw zero-div }
+
+-- its /16 phases are nothing to it
+pub since-phases : (k preload : ℕ) (t : Timer) (x : Ticks) (y : Pulses) → Since k preload t → Since k preload (withPhases t x y)
+since-phases k preload t x y s = record { loaded = s .loaded; gone = record { count = s .gone .count; output = s .gone .output } }
+
+pub timer-since : (mode base : ℕ) (t : Timer) (x : Elapsed) (f : Front) → Went mode base t x f → isTimer mode ≡ true → t .preload < 65536
+    → Since (x .pulses - base) (t .preload) (f .timer)
+timer-since mode base t x f w h l =
+    let k = x .pulses - base in
+    let from = rw (← w .goes .told, w .preload) at (since-start (w .from) mode k h (rw (w .preload) l)) in
+    since-phases k (t .preload) (core (f .timer)) (f .timer .ticks) (f .timer .edges) from

@@ -1,0 +1,228 @@
+-- The pulses of the clocks are as the statement has them: the front holds what the events tell, and the laws of its clocks and of its counter/timer
+-- say when a side has a pulse. Assumes nothing.
+use Prim.Native.Nat.{ℕ, suc, _+_, _*_, _/_, _%_, _≤_, _<_}
+use mathlib.Core.Path.{_≡_, refl, sym, _∙_, ap}
+use mathlib.Core.Bool.{Bool, true, false, _&&_, and-eq-true-iff, true≢false}
+use mathlib.Core.List.{List, [], _∷_, _++_, append-assoc}
+use native.Mathlib.Omega.{arith}
+use lib.Dec.{eqb, ltb}
+use borrow.Author.Tests.{lt-ltb, le-ltb}
+use Rattle.format.specs.Digits.{bit}
+use Rattle.format.specs.Pick.{pick}
+use Rattle.format.proofs.Laws.Pick.{pick-all}
+use Rattle.dividers.specs.Rates.{periodOf}
+use Rattle.clocks.specs.Pulses.{Side, codeOf}
+use Rattle.counting.specs.declared.counting.Counted.{Counted}
+use Rattle.counting.specs.declared.counting.Timer.{Timer}
+use Rattle.counting.specs.Counting.{modeOf, isTimer, tickPulses, edgePulses}
+use Rattle.counting.specs.Counting as Counting
+use Rattle.timer.specs.Timer.{tickedBy, edgedBy}
+use Rattle.timer.specs.Counts.{pulsesOf}
+use Rattle.timer.proofs.Counts.{toggles}
+use Rattle.timer.proofs.Sources.{leaves, sources}
+use Rattle.inputs.specs.Inputs.{risesOf, movedOf}
+use Rattle.front.specs.declared.front.Front.{Front}
+use Rattle.front_clocks.specs.Clocking.{countedOf}
+use Rattle.events.specs.declared.events.Event.{Event}
+use Rattle.events.specs.declared.events.Event.the-variants.{ChipReset, Read, Write, Acknowledge, Pins, Tick}
+use Rattle.demands.specs.Chip.{Channel, andThen}
+use Rattle.demands.specs.Told.{Programmed, levelsAfter}
+use Rattle.demands.specs.Registers.{acrAfter}
+use Rattle.demands.specs.Counter.{preloadAfter, Elapsed, elapsedThen, pulsesAfter, leavesCounter, allOf, since, Loaded}
+use Rattle.demands.specs.Clocks.{frontAfter, sideOf, pulsedBy, pulsedAfter}
+use Rattle.demands.specs.Pulses.{ticksAfter, isTick, clocks, edgeBy, codeAfter, Pulses}
+use Rattle.demands.proofs.Laws.Fronts.{frontMoved}
+use Rattle.demands.proofs.Laws.Told.{over-then, levels-told, acr-told, told}
+use Rattle.demands.proofs.Laws.Restarts.{fixed-pulse}
+use Rattle.demands.proofs.Laws.Timers.{Phased, preload-told}
+use Rattle.demands.proofs.Laws.Counting.{elapsedAt}
+use Rattle.demands.proofs.Laws.Loads.{Since, since-phases, WentBy, loaded-told, timer-since}
+use Rattle.demands.proofs.Laws.Clocks.{timer-pulse, timer-pins, pin-tick, pin-pulse}
+
+code-told : (side : Side) (ch : Channel) (levels : ℕ) (es : List Event) → codeAfter side ch es ≡ codeOf side (sideOf ch (frontAfter levels es) .csr)
+code-told side ch levels es = ap (λ (p : Programmed). codeOf side (p .csr)) (told ch levels es)
+
+-- ---- codes 0 to 12 ----
+
+fixed : (side : Side) (ch : Channel) (levels : ℕ) (es : List Event) (e : Event) → codeAfter side ch es < 13
+    → pulsedAfter side ch levels es e
+    ≡ (isTick e && eqb (suc (ticksAfter ch es) % periodOf (eqb (acrAfter es / 128) 1) (codeAfter side ch es) .0) 0)
+fixed side ch levels es e h =
+    rw (acr-told levels es, code-told side ch levels es) (fixed-pulse side ch levels es e (rw (code-told side ch levels es) at h))
+
+-- ---- codes 14 and 15 ----
+
+pin : (side : Side) (ch : Channel) (levels : ℕ) (es : List Event) (e : Event) → 13 < codeAfter side ch es
+    → pulsedAfter side ch levels es e ≡ edgeBy side ch (levelsAfter levels es) e
+unfolding pulsedBy
+pin side ch levels es e h = rw (levels-told levels es) (go e)
+  where
+    f : Front
+    f = frontAfter levels es
+
+    code : 13 < codeOf side (sideOf ch f .csr)
+    code = rw (code-told side ch levels es) at h
+
+    go : (e : Event) → pulsedBy side ch f e ≡ edgeBy side ch (f .inputs .levels) e
+    go ChipReset = refl
+    go (Read n) = refl
+    go (Write n byte) = refl
+    go Acknowledge = refl
+    go (Pins x) = pin-pulse side ch f x code
+    go Tick = pin-tick side ch f code
+
+-- ---- code 13: what the counter/timer toggles ----
+
+abbrev toggledBy : Front → Event → Bool
+toggledBy f ChipReset = false
+toggledBy f (Read n) = false
+toggledBy f (Write n byte) = false
+toggledBy f Acknowledge = false
+toggledBy f (Pins x) = countedOf (frontMoved f x) (f .inputs .levels) false .toggled
+toggledBy f Tick = countedOf f (f .inputs .levels) true .toggled
+
+toggle : (side : Side) (ch : Channel) (f : Front) (e : Event) → codeOf side (sideOf ch f .csr) ≡ 13 → pulsedBy side ch f e ≡ toggledBy f e
+unfolding pulsedBy
+toggle side ch f ChipReset c = refl
+toggle side ch f (Read n) c = refl
+toggle side ch f (Write n byte) c = refl
+toggle side ch f Acknowledge c = refl
+toggle side ch f (Pins x) c = timer-pins side ch f x c
+toggle side ch f Tick c = timer-pulse side ch f c
+
+-- in counter mode nothing
+counter-toggles : (t : Timer) (mode : ℕ) (pulse : Bool) → isTimer mode ≡ false → Counting.pulsedBy t mode pulse .toggled ≡ false
+unfolding Counting.pulsedBy pick
+counter-toggles t mode true h = rw h
+counter-toggles t mode false h = refl
+
+counted-toggles : (f : Front) (before : ℕ) (tick : Bool) → isTimer (modeOf (f .acr)) ≡ false → countedOf f before tick .toggled ≡ false
+unfolding countedOf tickedBy edgedBy
+counted-toggles f before tick h =
+    pick-all Never tick _ _ (counter-toggles _ (modeOf (f .acr)) _ h) (pick-all Never _ _ _ (counter-toggles _ (modeOf (f .acr)) _ h) refl)
+  where
+    Never : Counted → Type 0
+    Never c = c .toggled ≡ false
+
+counter : (side : Side) (ch : Channel) (levels : ℕ) (es : List Event) (e : Event) → codeAfter side ch es ≡ 13 → isTimer (modeOf (acrAfter es)) ≡ false
+    → pulsedAfter side ch levels es e ≡ false
+counter side ch levels es e c h = toggle side ch f e (sym (code-told side ch levels es) ∙ c) ∙ go e
+  where
+    f : Front
+    f = frontAfter levels es
+
+    mode : isTimer (modeOf (f .acr)) ≡ false
+    mode = rw (acr-told levels es) at h
+
+    go : (e : Event) → toggledBy f e ≡ false
+    go ChipReset = refl
+    go (Read n) = refl
+    go (Write n byte) = refl
+    go Acknowledge = refl
+    go (Pins x) = counted-toggles (frontMoved f x) (f .inputs .levels) false mode
+    go Tick = counted-toggles f (f .inputs .levels) true mode
+
+-- ---- and in timer mode ----
+
+pulse-toggles : (t : Timer) (mode k preload : ℕ) (pulse : Bool) → isTimer mode ≡ true → preload < 65536 → Since k preload t
+    → Counting.pulsedBy t mode pulse .toggled ≡ (pulse && eqb (suc k % (2 * pulsesOf preload)) 0)
+pulse-toggles t mode k preload true h l s = rw (← s .loaded) (toggles .high t mode k h (rw (s .loaded) l) (s .gone))
+pulse-toggles t mode k preload false h l s = rw (leaves .still t mode)
+
+-- whether one more pulse has come
+one-more : (n : ℕ) (pulse : Bool) → ltb n (n + bit pulse) ≡ pulse
+one-more n true = lt-ltb n (n + 1) (omega arith)
+one-more n false = le-ltb n (n + 0) (omega arith)
+
+event-toggles : (k preload : ℕ) (x : Elapsed) (f : Front) (e : Event) → isTimer (modeOf (f .acr)) ≡ true → preload < 65536
+    → Phased x f → Since k preload (f .timer)
+    → toggledBy f e ≡ (ltb (x .pulses) (elapsedThen (modeOf (f .acr)) x e .pulses) && eqb (suc k % (2 * pulsesOf preload)) 0)
+unfolding countedOf elapsedThen movedOf pick
+event-toggles k preload x f e h l p s = go e
+  where
+    ends : Bool
+    ends = eqb (suc k % (2 * pulsesOf preload)) 0
+
+    toggled : Counted → Bool
+    toggled c = c .toggled
+
+    still : (n : ℕ) → n ≤ x .pulses → false ≡ (ltb (x .pulses) n && ends)
+    still n le = rw (le-ltb (x .pulses) n le)
+
+    edged : toggled (edgedBy (f .timer) (modeOf (f .acr))) ≡ (edgePulses (modeOf (f .acr)) (eqb (suc (x .edges) % 16) 0) && ends)
+    edged =
+        ap toggled (sources .edges (f .timer) (modeOf (f .acr)) (x .edges) (p .edges))
+        ∙ pulse-toggles _ (modeOf (f .acr)) k preload _ h l (since-phases k preload (f .timer) _ _ s)
+
+    ticked : toggled (tickedBy (f .timer) (modeOf (f .acr))) ≡ (tickPulses (modeOf (f .acr)) (eqb (suc (x .ticks) % 16) 0) && ends)
+    ticked =
+        ap toggled (sources .ticks (f .timer) (modeOf (f .acr)) (x .ticks) (p .ticks))
+        ∙ pulse-toggles _ (modeOf (f .acr)) k preload _ h l (since-phases k preload (f .timer) _ _ s)
+
+    moved : (levels : ℕ) (t : Bool) → risesOf (x .levels) levels 2 ≡ t
+        → toggled (pick (risesOf (x .levels) levels 2) (edgedBy (f .timer) (modeOf (f .acr))) (record { timer = f .timer; toggled = false }))
+        ≡ (ltb (x .pulses) (elapsedThen (modeOf (f .acr)) x (Pins levels) .pulses) && ends)
+    moved levels true e = rw (e, one-more) edged
+    moved levels false e = rw e (still (x .pulses) (omega arith))
+
+    go : (e : Event) → toggledBy f e ≡ (ltb (x .pulses) (elapsedThen (modeOf (f .acr)) x e .pulses) && ends)
+    go ChipReset = still 0 (omega arith)
+    go (Read n) = still (x .pulses) (omega arith)
+    go (Write n byte) = still (x .pulses) (omega arith)
+    go Acknowledge = still (x .pulses) (omega arith)
+    go (Pins levels) = rw (p .levels) (moved levels (risesOf (x .levels) levels 2) refl)
+    go Tick = rw one-more ticked
+
+-- the last of some events, and those before it
+left-before : (fs : List Event) (e : Event) → allOf leavesCounter (andThen fs e) ≡ true → allOf leavesCounter fs ≡ true
+left-before [] e l = refl
+left-before (g ∷ fs) e l =
+    let both = and-eq-true-iff (leavesCounter g) _ .0 l in
+    and-eq-true-iff (leavesCounter g) _ .1 (both .0, left-before fs e (both .1))
+
+pulses-last : (mode levels : ℕ) (es fs : List Event) (load e : Event)
+    → pulsesAfter mode levels (es ++ load ∷ andThen fs e) ≡ elapsedThen mode (elapsedAt mode levels (es ++ load ∷ fs)) e .pulses
+pulses-last mode levels es fs load e =
+    ap (pulsesAfter mode levels) (sym (append-assoc es (load ∷ fs) (e ∷ [])))
+    ∙ ap (λ (x : Elapsed). x .pulses) (over-then (elapsedThen mode) _ (es ++ load ∷ fs) e)
+
+timer : (side : Side) (ch : Channel) (levels mode : ℕ) (es fs : List Event) (load e : Event) → codeAfter side ch (es ++ load ∷ fs) ≡ 13
+    → Loaded mode es load (andThen fs e) → isTimer mode ≡ true
+    → pulsedAfter side ch levels (es ++ load ∷ fs) e
+    ≡ (ltb (pulsesAfter mode levels (es ++ load ∷ fs)) (pulsesAfter mode levels (es ++ load ∷ andThen fs e))
+    && eqb (suc (since mode levels es load fs) % (2 * pulsesOf (preloadAfter es))) 0)
+timer side ch levels mode es fs load e c s h =
+    toggle side ch f e (sym (code-told side ch levels (es ++ load ∷ fs)) ∙ c)
+    ∙ rw (pulses-last mode levels es fs load e, preload-told levels es)
+    (rw chosen at
+    (event-toggles (since mode levels es load fs) (t .preload) _ f e (ap isTimer chosen ∙ h) low (went .goes .phased)
+    (timer-since mode _ _ _ _ went h low)))
+  where
+    f : Front
+    f = frontAfter levels (es ++ load ∷ fs)
+
+    t : Timer
+    t = frontAfter levels es .timer
+
+    low : t .preload < 65536
+    low = rw (preload-told levels es) at (s .preload)
+
+    went : WentBy mode levels es (load ∷ fs)
+    went =
+        loaded-told levels mode es fs load
+        (record { loaded = s .loaded; clock = s .clock; preload = s .preload; left = left-before fs e (s .left) }) h
+
+    chosen : modeOf (f .acr) ≡ mode
+    chosen = went .goes .chosen
+
+only : (side : Side) (ch : Channel) (levels : ℕ) (es : List Event) (e : Event) → clocks e ≡ false → pulsedAfter side ch levels es e ≡ false
+unfolding pulsedBy
+only side ch levels es ChipReset h = refl
+only side ch levels es (Read n) h = refl
+only side ch levels es (Write n byte) h = refl
+only side ch levels es Acknowledge h = refl
+only side ch levels es (Pins x) h = absurd (true≢false h)
+only side ch levels es Tick h = absurd (true≢false h)
+
+pub pulses : Pulses pulsedAfter
+pulses = record { only = only; fixed = fixed; pin = pin; counter = counter; timer = timer }
