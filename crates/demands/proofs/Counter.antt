@@ -40,7 +40,7 @@ use Rattle.demands.proofs.Laws.Stops.{halted-over, halted-stop, halted-
 
 -- ---- what is shown of it ----
 
-count-shown : (levels : ℕ) (es : List Event)
+pub count-shown : (levels : ℕ) (es : List Event)
     → (shows chip levels es 6 ≡ frontAfter levels es .timer .count / 256) × (shows chip levels es 7 ≡ frontAfter levels es .timer .count % 256)
 unfolding chipOf frontData pick
 count-shown levels es =
@@ -52,14 +52,14 @@ count-shown levels es =
 count-whole : (levels : ℕ) (es : List Event) → countShown chip levels es ≡ frontAfter levels es .timer .count
 count-whole levels es = let bytes = count-shown levels es in omega arith
 
-ready-shown : (levels : ℕ) (es : List Event) → hasBit (shows chip levels es 5) 3 ≡ frontAfter levels es .timer .ready
+pub ready-shown : (levels : ℕ) (es : List Event) → hasBit (shows chip levels es 5) 3 ≡ frontAfter levels es .timer .ready
 ready-shown levels es = rw (interrupts-shown levels es) (bit-3 _ _ _ _ _ _ _ _)
 
 not-twice : (b : Bool) → not (not b) ≡ b
 not-twice true = refl
 not-twice false = refl
 
-output-shown : (levels : ℕ) (es : List Event) → eqb (over opcrThen 0 es / 4 % 4) 1 ≡ true → isTimer (modeOf (frontAfter levels es .acr)) ≡ true
+pub output-shown : (levels : ℕ) (es : List Event) → eqb (over opcrThen 0 es / 4 % 4) 1 ≡ true → isTimer (modeOf (frontAfter levels es .acr)) ≡ true
     → hasBit (linesAfter chip levels es .op) 3 ≡ frontAfter levels es .timer .output
 unfolding drivenOp3 timerLevel pick
 output-shown levels es h m =

@@ -13,6 +13,9 @@ pub mod Timers
 pub mod Counting
 pub mod Loads
 pub mod Stops
+pub mod Frames
+pub mod Senders
+pub mod Samples
 pub mod Feeds
 pub mod Lines
 pub mod Buffer

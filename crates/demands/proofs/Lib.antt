@@ -4,9 +4,16 @@ pub mod Reached
 pub mod Demand1
 pub mod Registers
 pub mod Interrupts
+pub mod Numbers
 pub mod Outputs
 pub mod Pulses
 pub mod Counter
+pub mod Counted
+pub mod Sampling
 pub mod Delivery
 pub mod Received
+pub mod Transmits
+pub mod Sends
+pub mod ReadBack
+pub mod ReadBackExample
 pub mod Cases

@@ -17,7 +17,7 @@ use Rattle.receiver_status.specs.Status.{shownMarks}
 use Rattle.receiver.specs.Delivery.{oldestKnown}
 use Rattle.receiver.specs.Receiver.{readOf, fedOf}
 use Rattle.bytes.specs.Bytes.{hasBit}
-use Rattle.shown.specs.Shown.{blockErrors, shownOf}
+use Rattle.shown.specs.Shown.{blockErrors}
 use Rattle.reads.specs.Reads.{sideRead, registerRead}
 use Rattle.events.specs.declared.events.Event.{Event}
 use Rattle.events.specs.declared.events.Event.the-variants.{Read}
@@ -36,10 +36,10 @@ use Rattle.demands.specs.Told.{programmed}
 use Rattle.demands.specs.Clocks.{sideOf}
 use Rattle.demands.specs.Delivery.{ledger, held}
 use Rattle.demands.specs.Received.{statusMarks, lastFrom, sumsFrom, changeFrom, Received}
-use Rattle.demands.proofs.Laws.Bits.{bit-7, bit-6, bit-5, bit-2}
+use Rattle.demands.proofs.Laws.Bits.{bit-7, bit-6, bit-5}
 use Rattle.demands.proofs.Laws.Run.{runAt, run-front, run-sound, receiverAt}
 use Rattle.demands.proofs.Laws.Told.{told}
-use Rattle.demands.proofs.Laws.Looks.{chip, full-bit, interrupts-shown}
+use Rattle.demands.proofs.Laws.Looks.{chip, full-bit, change-bit}
 use Rattle.demands.proofs.Laws.Buffer.{status-told, ready-shown, four-counted, held-queue}
 use Rattle.demands.proofs.Laws.Follows.{receiverAfter, shows-buffer, last-after, oldest-known, sums-after, change-after}
 use Rattle.demands.proofs.Registers.{same-after}
@@ -120,11 +120,6 @@ unfolding shownMarks pick
 block-marks levels ch es h = marks-told levels ch es true h ∙ sym (sums-after levels ch es)
 
 -- ---- break change ----
-
-change-bit : (levels : ℕ) (ch : Channel) (es : List Event) → hasBit (shows chip levels es 5) (ofChannel ch 2 6) ≡ receiverAfter ch levels es .change
-unfolding shownOf
-change-bit levels A es = rw (interrupts-shown levels es) (bit-2 _ _ _ _ _ _ _ _)
-change-bit levels B es = rw (interrupts-shown levels es) (bit-6 _ _ _ _ _ _ _ _)
 
 change-shown : (levels : ℕ) (ch : Channel) (es : List Event) → hasBit (shows chip levels es 5) (ofChannel ch 2 6) ≡ changeFrom ch levels false [] es
 change-shown levels ch es = change-bit levels ch es ∙ sym (change-after levels ch es)

@@ -105,7 +105,7 @@ nothing-read d e h = go (stepOf d e .number) refl
 -- ---- later answers ----
 
 -- the rest of a list goes on from the state that its first event leaves
-on-from : (levels : ℕ) (es fs : List Event) (e g : Event)
+pub on-from : (levels : ℕ) (es fs : List Event) (e g : Event)
     → chip levels (es ++ e ∷ fs) g ≡ seenOf (stepOf (after stepOf (stepOf (runAt levels es) e .state) fs) g)
 unfolding chipOf after
 on-from levels es fs e g = rw (run-append (resetAt levels) es (e ∷ fs))

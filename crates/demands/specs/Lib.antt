@@ -5,10 +5,14 @@ pub mod Told
 pub mod Clocks
 pub mod Reached
 pub mod Demand1
+pub mod Numbers
 pub mod Registers
+pub mod Pulses
 pub mod Counter
+pub mod Counted
+pub mod Sampling
 pub mod Delivery
 pub mod Received
+pub mod Sending
 pub mod ReadBack
-pub mod Pulses
 pub mod Cases

@@ -11,6 +11,7 @@ use Rattle.receiver_status.specs.declared.status.Status.{Status}
 use Rattle.receiver_status.specs.Status.{statusOf}
 use Rattle.transmitter.specs.declared.status.TransmitterStatus.{TransmitterStatus}
 use Rattle.transmitter.specs.Status as Transmitters
+use Rattle.bytes.specs.Bytes.{hasBit}
 use Rattle.shown.specs.declared.shown.Shown.{Shown}
 use Rattle.shown.specs.Shown.{blockErrors, shownOf, channelShown}
 use Rattle.answers.specs.Answers.{isrOf}
@@ -21,11 +22,11 @@ use Rattle.device.specs.Device.{isSoundOf, deviceLines}
 use Rattle.duart.specs.Duart.{stepOf}
 use Rattle.chip.specs.Table.{row}
 use Rattle.chip.proofs.Table.{table}
-use Rattle.demands.specs.Chip.{Chip, chipOf, Channel, registerOf, shows, statusBit, linesAfter}
+use Rattle.demands.specs.Chip.{Chip, chipOf, Channel, ofChannel, registerOf, shows, statusBit, linesAfter}
 use Rattle.demands.specs.Chip.Channel.{A, B}
 use Rattle.demands.specs.Clocks.{frontAfter, sideOf}
 use Rattle.demands.proofs.Laws.Run.{runAt, run-front, run-sound, receiverAt, status-byte, interrupt-byte, status-quiet}
-use Rattle.demands.proofs.Laws.Bits.{bit-0, bit-1, bit-2, bit-3}
+use Rattle.demands.proofs.Laws.Bits.{bit-0, bit-1, bit-2, bit-3, bit-6}
 
 abbrev pub chip : Chip
 chip = chipOf stepOf
@@ -75,6 +76,13 @@ pub interrupts-shown : (levels : ℕ) (es : List Event)
     → shows chip levels es 5 ≡ isrOf (frontAfter levels es) (shownOn A levels es) (shownOn B levels es)
 unfolding chipOf
 interrupts-shown levels es = rw (← run-front levels es) (interrupt-byte (runAt levels es) (run-sound levels es))
+
+-- "ISR bits 7-0: .. break change B, .. break change A"
+pub change-bit : (levels : ℕ) (ch : Channel) (es : List Event)
+    → hasBit (shows chip levels es 5) (ofChannel ch 2 6) ≡ receiverAt ch (runAt levels es) .change
+unfolding shownOf
+change-bit levels A es = rw (interrupts-shown levels es) (bit-2 _ _ _ _ _ _ _ _)
+change-bit levels B es = rw (interrupts-shown levels es) (bit-6 _ _ _ _ _ _ _ _)
 
 -- ---- a status register ----
 

@@ -121,7 +121,7 @@ acr-told levels es = follows (λ f. f .acr) (lastWritten 4 0) acr-next (frontAt 
 
 -- ---- a transmitter's enable ----
 
-pulsed-enabled : (t : Transmitter) (s : Standing) → pulsedOf t s .enabled ≡ t .enabled
+pub pulsed-enabled : (t : Transmitter) (s : Standing) → pulsedOf t s .enabled ≡ t .enabled
 unfolding pulsedOf sentOnOf heldHigh begunOf
 pulsed-enabled t s =
     pick-all Same _ _ _ (pick-all Same _ _ _ refl begun)

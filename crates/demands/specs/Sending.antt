@@ -1,0 +1,146 @@
+-- Demand 2: ".. sent levels .. follow the Motorola manuals as document 01 fixes them.": what the events bring to a channel's transmitter, and what is then
+-- seen of it: TxD, TxRDY and TxEMT. The transmitter is run alone, over its inputs; the laws of crate transmitter say what it does with them.
+-- Assumes nothing.
+use Prim.Native.Nat.{ℕ, _+_, _<_, _≤_, _/_, _%_}
+use mathlib.Core.Path.{_≡_}
+use mathlib.Core.Bool.{Bool, true, false, not, _&&_}
+use mathlib.Core.List.{List, [], _∷_, _++_}
+use lib.Dec.{eqb}
+use lib.ListN.{length, getD, take}
+use Rattle.format.specs.Digits.{bit}
+use Rattle.format.specs.Pick.{pick}
+use Rattle.sending.specs.declared.sending.Standing.{Standing}
+use Rattle.sending.specs.declared.state.Transmitter.{Transmitter}
+use Rattle.sending.specs.State.{freshTransmitter}
+use Rattle.transmitter.specs.declared.transmitter.Input.{Input}
+use Rattle.transmitter.specs.declared.transmitter.Input.the-variants as Inputs
+use Rattle.transmitter.specs.Transmitter.{afterInput}
+use Rattle.transmitter.specs.Status.{shifterEmpty}
+use Rattle.transmitter.specs.Frames.{after, Startable, frameAt}
+use Rattle.clocks.specs.Channel.{isSixteen}
+use Rattle.clocks.specs.Pulses.Side.{transmits}
+use Rattle.bytes.specs.Bytes.{hasBit}
+use Rattle.answers.specs.declared.answers.Lines.{Lines}
+use Rattle.events.specs.declared.events.Event.{Event}
+use Rattle.events.specs.declared.events.Event.the-variants.{ChipReset, Read, Write, Acknowledge, Pins, Tick}
+use Rattle.demands.specs.Chip.{Chip, Channel, ofChannel, registerOf, andThen, statusBit, linesAfter}
+use Rattle.demands.specs.Told.{Programmed, levelsAfter, programmed}
+use Rattle.demands.specs.Clocks.{pulsedAfter}
+use Rattle.demands.specs.Counter.{allOf}
+use Rattle.demands.specs.Delivery.{commands}
+
+-- ---- what an event brings to a channel's transmitter ----
+
+-- what a pulse finds: the mode registers, 16X or 1X, and "CTS (if chosen; IP0 for A, IP1 for B)"
+abbrev pub standing : ℕ → Channel → List Event → Event → Standing
+standing levels ch es e =
+    let p : Programmed = programmed ch es in
+    record {
+      mr1 = p .mr1;
+      mr2 = p .mr2;
+      sixteen = isSixteen (p .csr % 16);
+      cts = hasBit (levelsAfter levels (andThen es e)) (ofChannel ch 0 1);
+    }
+
+abbrev pub pulseInputs : ℕ → Channel → List Event → Event → List Input
+pulseInputs levels ch es e = pick (pulsedAfter transmits ch levels es e) (Inputs.Pulse (standing levels ch es e) ∷ []) []
+
+-- "3 reset transmitter"; "6, 7 start, stop break"
+abbrev pub effectInputs : ℕ → List Input
+effectInputs effect =
+    pick (eqb effect 3) (Inputs.Reset ∷ [])
+    (pick (eqb effect 6) (Inputs.StartBreak ∷ [])
+    (pick (eqb effect 7) (Inputs.StopBreak ∷ []) []))
+
+-- "01 enable, 10 disable transmitter"
+abbrev pub enablingInputs : ℕ → List Input
+enablingInputs bits = pick (eqb bits 1) (Inputs.Enable ∷ []) (pick (eqb bits 2) (Inputs.Disable ∷ []) [])
+
+-- "bits 6-4 first, then 3-2"
+unfoldable pub inputsAt : ℕ → Channel → List Event → Event → List Input
+inputsAt levels ch es ChipReset = Inputs.ChipReset ∷ []
+inputsAt levels ch es (Read n) = []
+inputsAt levels ch es (Write n byte) =
+    pick (eqb n (registerOf ch 3)) (Inputs.Write byte ∷ [])
+    (pick (commands ch n byte) (effectInputs (byte / 16 % 8) ++ enablingInputs (byte / 4 % 4)) [])
+inputsAt levels ch es Acknowledge = []
+inputsAt levels ch es (Pins x) = pulseInputs levels ch es (Pins x)
+inputsAt levels ch es Tick = pulseInputs levels ch es Tick
+
+unfoldable pub inputsFrom : ℕ → Channel → List Event → List Event → List Input
+inputsFrom levels ch before [] = []
+inputsFrom levels ch before (e ∷ es) = inputsAt levels ch before e ++ inputsFrom levels ch (andThen before e) es
+
+-- the transmitter after these events
+abbrev pub senderAfter : ℕ → Channel → List Event → Transmitter
+senderAfter levels ch es = after afterInput freshTransmitter (inputsFrom levels ch [] es)
+
+-- ---- what is seen of it ----
+
+abbrev pub txdAfter : Chip → ℕ → Channel → List Event → Bool
+txdAfter c levels ch es = let l : Lines = linesAfter c levels es in ofChannel ch (l .txda) (l .txdb)
+
+pub record Transmits (c : Chip) : Type 0 where
+  pub line : (levels : ℕ) (ch : Channel) (es : List Event) → txdAfter c levels ch es ≡ senderAfter levels ch es .txd
+  -- "TxRDY: enabled and holding place empty."
+  pub ready : (levels : ℕ) (ch : Channel) (es : List Event)
+      → statusBit c levels ch es 2 ≡ (programmed ch es .transmits && not (senderAfter levels ch es .full))
+  -- "TxEMT: enabled, holding place and shifter empty."
+  pub empty : (levels : ℕ) (ch : Channel) (es : List Event)
+      → statusBit c levels ch es 3 ≡ (statusBit c levels ch es 2 && shifterEmpty (senderAfter levels ch es))
+  -- "A write while disabled is ignored; a second write replaces the first.": no later answer tells them apart
+  pub ignored : (levels x : ℕ) (ch : Channel) (es fs : List Event) (e : Event) → programmed ch es .transmits ≡ false
+      → c levels (es ++ Write (registerOf ch 3) x ∷ fs) e ≡ c levels (es ++ fs) e
+  pub replaced : (levels x y : ℕ) (ch : Channel) (es fs : List Event) (e : Event)
+      → c levels (es ++ Write (registerOf ch 3) x ∷ Write (registerOf ch 3) y ∷ fs) e ≡ c levels (es ++ Write (registerOf ch 3) y ∷ fs) e
+
+-- ---- a character that starts ----
+
+-- "A character starts on a pulse if enabled, idle, the holding place is full and CTS .. is low": it does with this event, after those
+pub record Starts (levels : ℕ) (ch : Channel) (es : List Event) (e : Event) : Type 0 where
+  pub pulse : pulsedAfter transmits ch levels es e ≡ true
+  pub startable : Startable (senderAfter levels ch es) (standing levels ch es e)
+
+-- its frame: "Format and 16X or 1X are taken when a character starts"
+abbrev pub startedFrame : ℕ → Channel → List Event → Event → List Bool
+startedFrame levels ch es e = frameAt (standing levels ch es e) (senderAfter levels ch es .holding)
+
+-- any event but a chip reset and a reset of the channel's transmitter
+abbrev pub keepsSending : Channel → Event → Bool
+keepsSending ch ChipReset = false
+keepsSending ch (Read n) = true
+keepsSending ch (Write n byte) = not (commands ch n byte && eqb (byte / 16 % 8) 3)
+keepsSending ch Acknowledge = true
+keepsSending ch (Pins x) = true
+keepsSending ch Tick = true
+
+-- how many of some events pulse the channel's transmitter, after those that came before
+unfoldable pub pulsesFrom : ℕ → Channel → List Event → List Event → ℕ
+pulsesFrom levels ch before [] = 0
+pulsesFrom levels ch before (e ∷ es) = bit (pulsedAfter transmits ch levels before e) + pulsesFrom levels ch (andThen before e) es
+
+-- TxD after each of these pulses, in order
+unfoldable pub sentFrom : Chip → ℕ → Channel → List Event → List Event → List Bool
+sentFrom c levels ch before [] = []
+sentFrom c levels ch before (e ∷ es) =
+    pick (pulsedAfter transmits ch levels before e) (txdAfter c levels ch (andThen before e) ∷ []) [] ++ sentFrom c levels ch (andThen before e) es
+
+pub record Sends (c : Chip) : Type 0 where
+  -- with its start a character leaves the holding place
+  pub leaves : (levels : ℕ) (ch : Channel) (es : List Event) (e : Event) → Starts levels ch es e → statusBit c levels ch (andThen es e) 2 ≡ true
+  -- TxD after the k-th pulse from the start is level k-1 of the frame, and stays so until the next, whatever else comes but a reset
+  pub level : (levels : ℕ) (ch : Channel) (es fs : List Event) (e : Event) → Starts levels ch es e → allOf (keepsSending ch) fs ≡ true
+      → pulsesFrom levels ch (andThen es e) fs < length (startedFrame levels ch es e)
+      → txdAfter c levels ch (andThen es e ++ fs) ≡ getD (startedFrame levels ch es e) (pulsesFrom levels ch (andThen es e) fs) true
+  -- so the levels at the pulses are its frame, as far as they go
+  pub line : (levels : ℕ) (ch : Channel) (es fs : List Event) (e : Event) → Starts levels ch es e → allOf (keepsSending ch) fs ≡ true
+      → pulsesFrom levels ch es (e ∷ fs) ≤ length (startedFrame levels ch es e)
+      → sentFrom c levels ch es (e ∷ fs) ≡ take (pulsesFrom levels ch es (e ∷ fs)) (startedFrame levels ch es e)
+  -- as long as it lasts TxEMT is clear
+  pub busy : (levels : ℕ) (ch : Channel) (es fs : List Event) (e : Event) → Starts levels ch es e → allOf (keepsSending ch) fs ≡ true
+      → pulsesFrom levels ch (andThen es e) fs < length (startedFrame levels ch es e)
+      → statusBit c levels ch (andThen es e ++ fs) 3 ≡ false
+  -- the pulse after its last sets it, if no other character can start
+  pub over : (levels : ℕ) (ch : Channel) (es fs : List Event) (e next : Event) → Starts levels ch es e → allOf (keepsSending ch) fs ≡ true
+      → pulsesFrom levels ch es (e ∷ fs) ≡ length (startedFrame levels ch es e) → pulsedAfter transmits ch levels (andThen es e ++ fs) next ≡ true
+      → statusBit c levels ch (andThen es e ++ fs) 2 ≡ true → statusBit c levels ch (andThen (andThen es e ++ fs) next) 3 ≡ true
