@@ -1,4 +1,4 @@
--- Document 01's eleven cases, by computing the definitions: a case at a time, for a check has its limits, and then the table. Assumes nothing.
+-- Document 01's eleven cases, by computing the definitions: some cases at a time, for a check has its limits, and then the table. Assumes nothing.
 use mathlib.Core.Path.{_≡_, refl, sym}
 use mathlib.Core.Bool.{Bool, true, false, _&&_, true≢false}
 use mathlib.Core.List.{List, [], _∷_, _++_}
@@ -68,63 +68,25 @@ unfolding allHold
 both [] b h k = k
 both (x ∷ a) b h k = first-then (holds (chipOf stepOf) requestFrame x) h (λ l. both a b l k)
 
-holds-1 : Holds case1
+first-cases : Holds (case1 ++ case2 ++ case3 ++ case4)
 unfolding bitsOf valueOf oddOnes formatOf parityBitOf parityBits pick stopLengthOf rowOf stopBitsOf beforeStop bitsBeforeStopOf spread levels frame frameLengthOf frameBitsOf levelOf dataWidthOf samplesOf withSample parityWrongOf characterOf gapOf afterStop lowAt hunted lookedAgain followed waited finished sampled assembled sampleOf heldOf putOf withoutWaitingOf tookOf oldestMarks inArrivals.startedOf inTimer.startedOf enteredOf arrivedOf inArrivals.pulsedOf inSending.pulsedOf effectOf enablingOf shownMarks oldestRead readOf fedOf inSending.takenOf inDuart.takenOf begunOf bitOfPulse sentOnOf heldHigh writtenOf breakEnded droppedOf breakAsked afterInput dividedOf sixteenthOf periodOf restartedOnChange tickedOf sideOf transmitter1x inClocks.clockedOf inFrontClocks.clockedOf counterPulsed timerPulsed pulsedBy tickedBy edgedBy stoppedOf modeChanged hasBit weightOf byteOf movedOf pinsOfA pinsOfB drivenBy drivenOp3 opLevels freshSide modeRegister modeNotModelled modeWritten csrWritten setChanged bufferWritten transmitterPulsed lineOf sideClocked transmitterEffect receiverEffect transmitterEnabling receiverEnabling sideCommanded commandFeed receivedOf shownOf frontAt countedOf clockedWith levelsMoved sideWritten acrWritten sharedWritten registerWritten sideRead sharedRead registerRead frontData registerAbove15 forbiddenRead forbiddenCommand frontStepped writeNotModelled settingNotModelled assertedOf timerLevel linesOf registerData eventData freshDevice acknowledgedUnasserted firstOf numberOf refusalLines stepOf firstRefusal answerOf requestOf spaceAfter after chipOf holds allHold heard
-holds-1 = refl
+first-cases = refl
 
-holds-2 : Holds case2
+fourth-sent : Holds case4sent
 unfolding bitsOf valueOf oddOnes formatOf parityBitOf parityBits pick stopLengthOf rowOf stopBitsOf beforeStop bitsBeforeStopOf spread levels frame frameLengthOf frameBitsOf levelOf dataWidthOf samplesOf withSample parityWrongOf characterOf gapOf afterStop lowAt hunted lookedAgain followed waited finished sampled assembled sampleOf heldOf putOf withoutWaitingOf tookOf oldestMarks inArrivals.startedOf inTimer.startedOf enteredOf arrivedOf inArrivals.pulsedOf inSending.pulsedOf effectOf enablingOf shownMarks oldestRead readOf fedOf inSending.takenOf inDuart.takenOf begunOf bitOfPulse sentOnOf heldHigh writtenOf breakEnded droppedOf breakAsked afterInput dividedOf sixteenthOf periodOf restartedOnChange tickedOf sideOf transmitter1x inClocks.clockedOf inFrontClocks.clockedOf counterPulsed timerPulsed pulsedBy tickedBy edgedBy stoppedOf modeChanged hasBit weightOf byteOf movedOf pinsOfA pinsOfB drivenBy drivenOp3 opLevels freshSide modeRegister modeNotModelled modeWritten csrWritten setChanged bufferWritten transmitterPulsed lineOf sideClocked transmitterEffect receiverEffect transmitterEnabling receiverEnabling sideCommanded commandFeed receivedOf shownOf frontAt countedOf clockedWith levelsMoved sideWritten acrWritten sharedWritten registerWritten sideRead sharedRead registerRead frontData registerAbove15 forbiddenRead forbiddenCommand frontStepped writeNotModelled settingNotModelled assertedOf timerLevel linesOf registerData eventData freshDevice acknowledgedUnasserted firstOf numberOf refusalLines stepOf firstRefusal answerOf requestOf spaceAfter after chipOf holds allHold heard
-holds-2 = refl
+fourth-sent = refl
 
-holds-3 : Holds case3
+fifth-and-sixth : Holds (case5 ++ case6)
 unfolding bitsOf valueOf oddOnes formatOf parityBitOf parityBits pick stopLengthOf rowOf stopBitsOf beforeStop bitsBeforeStopOf spread levels frame frameLengthOf frameBitsOf levelOf dataWidthOf samplesOf withSample parityWrongOf characterOf gapOf afterStop lowAt hunted lookedAgain followed waited finished sampled assembled sampleOf heldOf putOf withoutWaitingOf tookOf oldestMarks inArrivals.startedOf inTimer.startedOf enteredOf arrivedOf inArrivals.pulsedOf inSending.pulsedOf effectOf enablingOf shownMarks oldestRead readOf fedOf inSending.takenOf inDuart.takenOf begunOf bitOfPulse sentOnOf heldHigh writtenOf breakEnded droppedOf breakAsked afterInput dividedOf sixteenthOf periodOf restartedOnChange tickedOf sideOf transmitter1x inClocks.clockedOf inFrontClocks.clockedOf counterPulsed timerPulsed pulsedBy tickedBy edgedBy stoppedOf modeChanged hasBit weightOf byteOf movedOf pinsOfA pinsOfB drivenBy drivenOp3 opLevels freshSide modeRegister modeNotModelled modeWritten csrWritten setChanged bufferWritten transmitterPulsed lineOf sideClocked transmitterEffect receiverEffect transmitterEnabling receiverEnabling sideCommanded commandFeed receivedOf shownOf frontAt countedOf clockedWith levelsMoved sideWritten acrWritten sharedWritten registerWritten sideRead sharedRead registerRead frontData registerAbove15 forbiddenRead forbiddenCommand frontStepped writeNotModelled settingNotModelled assertedOf timerLevel linesOf registerData eventData freshDevice acknowledgedUnasserted firstOf numberOf refusalLines stepOf firstRefusal answerOf requestOf spaceAfter after chipOf holds allHold heard
-holds-3 = refl
+fifth-and-sixth = refl
 
-holds-4 : Holds case4
+seventh : Holds case7
 unfolding bitsOf valueOf oddOnes formatOf parityBitOf parityBits pick stopLengthOf rowOf stopBitsOf beforeStop bitsBeforeStopOf spread levels frame frameLengthOf frameBitsOf levelOf dataWidthOf samplesOf withSample parityWrongOf characterOf gapOf afterStop lowAt hunted lookedAgain followed waited finished sampled assembled sampleOf heldOf putOf withoutWaitingOf tookOf oldestMarks inArrivals.startedOf inTimer.startedOf enteredOf arrivedOf inArrivals.pulsedOf inSending.pulsedOf effectOf enablingOf shownMarks oldestRead readOf fedOf inSending.takenOf inDuart.takenOf begunOf bitOfPulse sentOnOf heldHigh writtenOf breakEnded droppedOf breakAsked afterInput dividedOf sixteenthOf periodOf restartedOnChange tickedOf sideOf transmitter1x inClocks.clockedOf inFrontClocks.clockedOf counterPulsed timerPulsed pulsedBy tickedBy edgedBy stoppedOf modeChanged hasBit weightOf byteOf movedOf pinsOfA pinsOfB drivenBy drivenOp3 opLevels freshSide modeRegister modeNotModelled modeWritten csrWritten setChanged bufferWritten transmitterPulsed lineOf sideClocked transmitterEffect receiverEffect transmitterEnabling receiverEnabling sideCommanded commandFeed receivedOf shownOf frontAt countedOf clockedWith levelsMoved sideWritten acrWritten sharedWritten registerWritten sideRead sharedRead registerRead frontData registerAbove15 forbiddenRead forbiddenCommand frontStepped writeNotModelled settingNotModelled assertedOf timerLevel linesOf registerData eventData freshDevice acknowledgedUnasserted firstOf numberOf refusalLines stepOf firstRefusal answerOf requestOf spaceAfter after chipOf holds allHold heard
-holds-4 = refl
+seventh = refl
 
-holds-4-sent : Holds case4sent
+last-cases : Holds (case8 ++ case9 ++ case10 ++ case11)
 unfolding bitsOf valueOf oddOnes formatOf parityBitOf parityBits pick stopLengthOf rowOf stopBitsOf beforeStop bitsBeforeStopOf spread levels frame frameLengthOf frameBitsOf levelOf dataWidthOf samplesOf withSample parityWrongOf characterOf gapOf afterStop lowAt hunted lookedAgain followed waited finished sampled assembled sampleOf heldOf putOf withoutWaitingOf tookOf oldestMarks inArrivals.startedOf inTimer.startedOf enteredOf arrivedOf inArrivals.pulsedOf inSending.pulsedOf effectOf enablingOf shownMarks oldestRead readOf fedOf inSending.takenOf inDuart.takenOf begunOf bitOfPulse sentOnOf heldHigh writtenOf breakEnded droppedOf breakAsked afterInput dividedOf sixteenthOf periodOf restartedOnChange tickedOf sideOf transmitter1x inClocks.clockedOf inFrontClocks.clockedOf counterPulsed timerPulsed pulsedBy tickedBy edgedBy stoppedOf modeChanged hasBit weightOf byteOf movedOf pinsOfA pinsOfB drivenBy drivenOp3 opLevels freshSide modeRegister modeNotModelled modeWritten csrWritten setChanged bufferWritten transmitterPulsed lineOf sideClocked transmitterEffect receiverEffect transmitterEnabling receiverEnabling sideCommanded commandFeed receivedOf shownOf frontAt countedOf clockedWith levelsMoved sideWritten acrWritten sharedWritten registerWritten sideRead sharedRead registerRead frontData registerAbove15 forbiddenRead forbiddenCommand frontStepped writeNotModelled settingNotModelled assertedOf timerLevel linesOf registerData eventData freshDevice acknowledgedUnasserted firstOf numberOf refusalLines stepOf firstRefusal answerOf requestOf spaceAfter after chipOf holds allHold heard
-holds-4-sent = refl
-
-holds-5 : Holds case5
-unfolding bitsOf valueOf oddOnes formatOf parityBitOf parityBits pick stopLengthOf rowOf stopBitsOf beforeStop bitsBeforeStopOf spread levels frame frameLengthOf frameBitsOf levelOf dataWidthOf samplesOf withSample parityWrongOf characterOf gapOf afterStop lowAt hunted lookedAgain followed waited finished sampled assembled sampleOf heldOf putOf withoutWaitingOf tookOf oldestMarks inArrivals.startedOf inTimer.startedOf enteredOf arrivedOf inArrivals.pulsedOf inSending.pulsedOf effectOf enablingOf shownMarks oldestRead readOf fedOf inSending.takenOf inDuart.takenOf begunOf bitOfPulse sentOnOf heldHigh writtenOf breakEnded droppedOf breakAsked afterInput dividedOf sixteenthOf periodOf restartedOnChange tickedOf sideOf transmitter1x inClocks.clockedOf inFrontClocks.clockedOf counterPulsed timerPulsed pulsedBy tickedBy edgedBy stoppedOf modeChanged hasBit weightOf byteOf movedOf pinsOfA pinsOfB drivenBy drivenOp3 opLevels freshSide modeRegister modeNotModelled modeWritten csrWritten setChanged bufferWritten transmitterPulsed lineOf sideClocked transmitterEffect receiverEffect transmitterEnabling receiverEnabling sideCommanded commandFeed receivedOf shownOf frontAt countedOf clockedWith levelsMoved sideWritten acrWritten sharedWritten registerWritten sideRead sharedRead registerRead frontData registerAbove15 forbiddenRead forbiddenCommand frontStepped writeNotModelled settingNotModelled assertedOf timerLevel linesOf registerData eventData freshDevice acknowledgedUnasserted firstOf numberOf refusalLines stepOf firstRefusal answerOf requestOf spaceAfter after chipOf holds allHold heard
-holds-5 = refl
-
-holds-6 : Holds case6
-unfolding bitsOf valueOf oddOnes formatOf parityBitOf parityBits pick stopLengthOf rowOf stopBitsOf beforeStop bitsBeforeStopOf spread levels frame frameLengthOf frameBitsOf levelOf dataWidthOf samplesOf withSample parityWrongOf characterOf gapOf afterStop lowAt hunted lookedAgain followed waited finished sampled assembled sampleOf heldOf putOf withoutWaitingOf tookOf oldestMarks inArrivals.startedOf inTimer.startedOf enteredOf arrivedOf inArrivals.pulsedOf inSending.pulsedOf effectOf enablingOf shownMarks oldestRead readOf fedOf inSending.takenOf inDuart.takenOf begunOf bitOfPulse sentOnOf heldHigh writtenOf breakEnded droppedOf breakAsked afterInput dividedOf sixteenthOf periodOf restartedOnChange tickedOf sideOf transmitter1x inClocks.clockedOf inFrontClocks.clockedOf counterPulsed timerPulsed pulsedBy tickedBy edgedBy stoppedOf modeChanged hasBit weightOf byteOf movedOf pinsOfA pinsOfB drivenBy drivenOp3 opLevels freshSide modeRegister modeNotModelled modeWritten csrWritten setChanged bufferWritten transmitterPulsed lineOf sideClocked transmitterEffect receiverEffect transmitterEnabling receiverEnabling sideCommanded commandFeed receivedOf shownOf frontAt countedOf clockedWith levelsMoved sideWritten acrWritten sharedWritten registerWritten sideRead sharedRead registerRead frontData registerAbove15 forbiddenRead forbiddenCommand frontStepped writeNotModelled settingNotModelled assertedOf timerLevel linesOf registerData eventData freshDevice acknowledgedUnasserted firstOf numberOf refusalLines stepOf firstRefusal answerOf requestOf spaceAfter after chipOf holds allHold heard
-holds-6 = refl
-
-holds-7 : Holds case7
-unfolding bitsOf valueOf oddOnes formatOf parityBitOf parityBits pick stopLengthOf rowOf stopBitsOf beforeStop bitsBeforeStopOf spread levels frame frameLengthOf frameBitsOf levelOf dataWidthOf samplesOf withSample parityWrongOf characterOf gapOf afterStop lowAt hunted lookedAgain followed waited finished sampled assembled sampleOf heldOf putOf withoutWaitingOf tookOf oldestMarks inArrivals.startedOf inTimer.startedOf enteredOf arrivedOf inArrivals.pulsedOf inSending.pulsedOf effectOf enablingOf shownMarks oldestRead readOf fedOf inSending.takenOf inDuart.takenOf begunOf bitOfPulse sentOnOf heldHigh writtenOf breakEnded droppedOf breakAsked afterInput dividedOf sixteenthOf periodOf restartedOnChange tickedOf sideOf transmitter1x inClocks.clockedOf inFrontClocks.clockedOf counterPulsed timerPulsed pulsedBy tickedBy edgedBy stoppedOf modeChanged hasBit weightOf byteOf movedOf pinsOfA pinsOfB drivenBy drivenOp3 opLevels freshSide modeRegister modeNotModelled modeWritten csrWritten setChanged bufferWritten transmitterPulsed lineOf sideClocked transmitterEffect receiverEffect transmitterEnabling receiverEnabling sideCommanded commandFeed receivedOf shownOf frontAt countedOf clockedWith levelsMoved sideWritten acrWritten sharedWritten registerWritten sideRead sharedRead registerRead frontData registerAbove15 forbiddenRead forbiddenCommand frontStepped writeNotModelled settingNotModelled assertedOf timerLevel linesOf registerData eventData freshDevice acknowledgedUnasserted firstOf numberOf refusalLines stepOf firstRefusal answerOf requestOf spaceAfter after chipOf holds allHold heard
-holds-7 = refl
-
-holds-8 : Holds case8
-unfolding bitsOf valueOf oddOnes formatOf parityBitOf parityBits pick stopLengthOf rowOf stopBitsOf beforeStop bitsBeforeStopOf spread levels frame frameLengthOf frameBitsOf levelOf dataWidthOf samplesOf withSample parityWrongOf characterOf gapOf afterStop lowAt hunted lookedAgain followed waited finished sampled assembled sampleOf heldOf putOf withoutWaitingOf tookOf oldestMarks inArrivals.startedOf inTimer.startedOf enteredOf arrivedOf inArrivals.pulsedOf inSending.pulsedOf effectOf enablingOf shownMarks oldestRead readOf fedOf inSending.takenOf inDuart.takenOf begunOf bitOfPulse sentOnOf heldHigh writtenOf breakEnded droppedOf breakAsked afterInput dividedOf sixteenthOf periodOf restartedOnChange tickedOf sideOf transmitter1x inClocks.clockedOf inFrontClocks.clockedOf counterPulsed timerPulsed pulsedBy tickedBy edgedBy stoppedOf modeChanged hasBit weightOf byteOf movedOf pinsOfA pinsOfB drivenBy drivenOp3 opLevels freshSide modeRegister modeNotModelled modeWritten csrWritten setChanged bufferWritten transmitterPulsed lineOf sideClocked transmitterEffect receiverEffect transmitterEnabling receiverEnabling sideCommanded commandFeed receivedOf shownOf frontAt countedOf clockedWith levelsMoved sideWritten acrWritten sharedWritten registerWritten sideRead sharedRead registerRead frontData registerAbove15 forbiddenRead forbiddenCommand frontStepped writeNotModelled settingNotModelled assertedOf timerLevel linesOf registerData eventData freshDevice acknowledgedUnasserted firstOf numberOf refusalLines stepOf firstRefusal answerOf requestOf spaceAfter after chipOf holds allHold heard
-holds-8 = refl
-
-holds-9 : Holds case9
-unfolding bitsOf valueOf oddOnes formatOf parityBitOf parityBits pick stopLengthOf rowOf stopBitsOf beforeStop bitsBeforeStopOf spread levels frame frameLengthOf frameBitsOf levelOf dataWidthOf samplesOf withSample parityWrongOf characterOf gapOf afterStop lowAt hunted lookedAgain followed waited finished sampled assembled sampleOf heldOf putOf withoutWaitingOf tookOf oldestMarks inArrivals.startedOf inTimer.startedOf enteredOf arrivedOf inArrivals.pulsedOf inSending.pulsedOf effectOf enablingOf shownMarks oldestRead readOf fedOf inSending.takenOf inDuart.takenOf begunOf bitOfPulse sentOnOf heldHigh writtenOf breakEnded droppedOf breakAsked afterInput dividedOf sixteenthOf periodOf restartedOnChange tickedOf sideOf transmitter1x inClocks.clockedOf inFrontClocks.clockedOf counterPulsed timerPulsed pulsedBy tickedBy edgedBy stoppedOf modeChanged hasBit weightOf byteOf movedOf pinsOfA pinsOfB drivenBy drivenOp3 opLevels freshSide modeRegister modeNotModelled modeWritten csrWritten setChanged bufferWritten transmitterPulsed lineOf sideClocked transmitterEffect receiverEffect transmitterEnabling receiverEnabling sideCommanded commandFeed receivedOf shownOf frontAt countedOf clockedWith levelsMoved sideWritten acrWritten sharedWritten registerWritten sideRead sharedRead registerRead frontData registerAbove15 forbiddenRead forbiddenCommand frontStepped writeNotModelled settingNotModelled assertedOf timerLevel linesOf registerData eventData freshDevice acknowledgedUnasserted firstOf numberOf refusalLines stepOf firstRefusal answerOf requestOf spaceAfter after chipOf holds allHold heard
-holds-9 = refl
-
-holds-10 : Holds case10
-unfolding bitsOf valueOf oddOnes formatOf parityBitOf parityBits pick stopLengthOf rowOf stopBitsOf beforeStop bitsBeforeStopOf spread levels frame frameLengthOf frameBitsOf levelOf dataWidthOf samplesOf withSample parityWrongOf characterOf gapOf afterStop lowAt hunted lookedAgain followed waited finished sampled assembled sampleOf heldOf putOf withoutWaitingOf tookOf oldestMarks inArrivals.startedOf inTimer.startedOf enteredOf arrivedOf inArrivals.pulsedOf inSending.pulsedOf effectOf enablingOf shownMarks oldestRead readOf fedOf inSending.takenOf inDuart.takenOf begunOf bitOfPulse sentOnOf heldHigh writtenOf breakEnded droppedOf breakAsked afterInput dividedOf sixteenthOf periodOf restartedOnChange tickedOf sideOf transmitter1x inClocks.clockedOf inFrontClocks.clockedOf counterPulsed timerPulsed pulsedBy tickedBy edgedBy stoppedOf modeChanged hasBit weightOf byteOf movedOf pinsOfA pinsOfB drivenBy drivenOp3 opLevels freshSide modeRegister modeNotModelled modeWritten csrWritten setChanged bufferWritten transmitterPulsed lineOf sideClocked transmitterEffect receiverEffect transmitterEnabling receiverEnabling sideCommanded commandFeed receivedOf shownOf frontAt countedOf clockedWith levelsMoved sideWritten acrWritten sharedWritten registerWritten sideRead sharedRead registerRead frontData registerAbove15 forbiddenRead forbiddenCommand frontStepped writeNotModelled settingNotModelled assertedOf timerLevel linesOf registerData eventData freshDevice acknowledgedUnasserted firstOf numberOf refusalLines stepOf firstRefusal answerOf requestOf spaceAfter after chipOf holds allHold heard
-holds-10 = refl
-
-holds-11 : Holds case11
-unfolding bitsOf valueOf oddOnes formatOf parityBitOf parityBits pick stopLengthOf rowOf stopBitsOf beforeStop bitsBeforeStopOf spread levels frame frameLengthOf frameBitsOf levelOf dataWidthOf samplesOf withSample parityWrongOf characterOf gapOf afterStop lowAt hunted lookedAgain followed waited finished sampled assembled sampleOf heldOf putOf withoutWaitingOf tookOf oldestMarks inArrivals.startedOf inTimer.startedOf enteredOf arrivedOf inArrivals.pulsedOf inSending.pulsedOf effectOf enablingOf shownMarks oldestRead readOf fedOf inSending.takenOf inDuart.takenOf begunOf bitOfPulse sentOnOf heldHigh writtenOf breakEnded droppedOf breakAsked afterInput dividedOf sixteenthOf periodOf restartedOnChange tickedOf sideOf transmitter1x inClocks.clockedOf inFrontClocks.clockedOf counterPulsed timerPulsed pulsedBy tickedBy edgedBy stoppedOf modeChanged hasBit weightOf byteOf movedOf pinsOfA pinsOfB drivenBy drivenOp3 opLevels freshSide modeRegister modeNotModelled modeWritten csrWritten setChanged bufferWritten transmitterPulsed lineOf sideClocked transmitterEffect receiverEffect transmitterEnabling receiverEnabling sideCommanded commandFeed receivedOf shownOf frontAt countedOf clockedWith levelsMoved sideWritten acrWritten sharedWritten registerWritten sideRead sharedRead registerRead frontData registerAbove15 forbiddenRead forbiddenCommand frontStepped writeNotModelled settingNotModelled assertedOf timerLevel linesOf registerData eventData freshDevice acknowledgedUnasserted firstOf numberOf refusalLines stepOf firstRefusal answerOf requestOf spaceAfter after chipOf holds allHold heard
-holds-11 = refl
+last-cases = refl
 
 pub eleven-cases : Cases (chipOf stepOf) requestFrame
-eleven-cases = both case1 _ holds-1
-    (both case2 _ holds-2
-    (both case3 _ holds-3
-    (both case4 _ holds-4
-    (both case4sent _ holds-4-sent
-    (both case5 _ holds-5
-    (both case6 _ holds-6
-    (both case7 _ holds-7
-    (both case8 _ holds-8
-    (both case9 _ holds-9
-    (both _ _ holds-10 holds-11))))))))))
+eleven-cases = both _ _ (both _ _ (both _ _ (both _ _ first-cases fourth-sent) fifth-and-sixth) seventh) last-cases

@@ -7,10 +7,14 @@ use mathlib.Core.List.{List, _++_}
 use native.Mathlib.Omega.{arith}
 use borrow.Author.Tests.{lt-ltb, le-ltb, eq-eqb, ne-eqb}
 use native.Mathlib.Decide.{decLt}
+use lib.Dec.{eqb}
 use lib.ListN.{length, drop}
-use Rattle.format.specs.Format.{mr1NotModelled, mr2NotModelled}
+use Rattle.format.specs.Format.{mr1NotModelled, mr2NotModelled, stopCodeOf}
+use Rattle.format.specs.declared.counts.Pulses.{Pulses}
 use Rattle.format.specs.Pick.{pick}
-use Rattle.request.specs.Request.{lengthAsked, levelsAsked, firstRefusal, answerOf, requestOf, spaceAfter}
+use Rattle.format.proofs.Laws.Pick.{pick-all}
+use Rattle.frame.proofs.Laws.Levels.{length-most}
+use Rattle.request.specs.Request.{lengthAsked, levelsAsked, notModelled, spaceShort, firstRefusal, answerOf, requestOf, spaceAfter}
 use Rattle.outputs.specs.Outputs.{opcrNotModelled}
 use Rattle.side.specs.Side.{modeNotModelled}
 use Rattle.commands.specs.Commands.{commandForbidden}
@@ -93,6 +97,13 @@ none : (mr1 mr2 x : ℕ) (space : List ℕ) → (requestFrame mr1 mr2 x space .0
 unfolding requestOf answerOf pick
 none mr1 mr2 x space h = rw (ne-eqb _ 0 h)
 
+most : (mr1 mr2 x : ℕ) (space : List ℕ) → requestFrame mr1 mr2 x space .0 .length .0 ≤ 192
+unfolding requestOf answerOf pick
+most mr1 mr2 x space =
+    let n : ℕ = firstRefusal (notModelled mr1 mr2) (spaceShort mr1 mr2 (length space)) in
+    let none : 0 ≤ 192 = omega arith in
+    pick-all (λ (p : Pulses). p .0 ≤ 192) (eqb n 0) (lengthAsked mr1 mr2) (record { 0 = 0 }) (length-most true mr1 (stopCodeOf mr2)) none
+
 written : (mr1 mr2 x : ℕ) (space : List ℕ) → requestFrame mr1 mr2 x space .0 .number ≡ 0
     → requestFrame mr1 mr2 x space .1 ≡ levelsAsked mr1 mr2 x ++ drop (lengthAsked mr1 mr2 .0) space
 unfolding spaceAfter pick
@@ -117,6 +128,7 @@ demand-1 =
       short = short;
       given = given;
       none = none;
+      most = most;
       written = written;
       untouched = untouched;
     }

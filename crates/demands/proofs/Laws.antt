@@ -16,6 +16,7 @@ pub mod Stops
 pub mod Frames
 pub mod Senders
 pub mod Samples
+pub mod Stopped
 pub mod Feeds
 pub mod Lines
 pub mod Buffer

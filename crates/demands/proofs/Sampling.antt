@@ -1,8 +1,9 @@
 -- The sampling rule. Pulses that are passed over are dropped, however many; the one after them is the sample, and its level stands in the list at their
--- number. So a character is gone through sample by sample, and what follows its stop is heard by the sampler that the stop leaves. Assumes nothing.
+-- number. So a character is gone through sample by sample, and what follows its stop is heard by the sampler that the stop leaves. With too few pulses the
+-- stop's sample is never reached. Assumes nothing.
 use Prim.Native.Nat.{ℕ, zero, suc, _+_, _-_, _*_, _^_, _≤_, _<_}
 use mathlib.Core.Path.{_≡_, refl, sym, ap, _∙_}
-use mathlib.Core.Bool.{Bool, true, false, and-eq-true-iff, true≢false}
+use mathlib.Core.Bool.{Bool, true, false, true≢false}
 use mathlib.Core.List.{List, [], _∷_, _++_, append-assoc}
 use native.Mathlib.Omega.{arith}
 use native.Mathlib.Numerals.{add-one}
@@ -16,15 +17,16 @@ use Rattle.format.proofs.Laws.Pick.{pick-yes, pick-no}
 use Rattle.character.specs.Character.{breakCharacter}
 use Rattle.assembly.specs.declared.state.Setting.{Setting}
 use Rattle.assembly.specs.Assembly.{samplesOf, withSample}
-use Rattle.assembly.specs.State.{hunting, starting, assembling, afterLowStop, inBreak, gapOf}
+use Rattle.assembly.specs.State.{hunting, starting, assembling, inBreak, gapOf}
 use Rattle.assembly.proofs.Laws.Assembly.{with-sample-small, with-sample-adds}
-use Rattle.hunting.specs.Hunting.{still, confirmed, lowAt, hunted, lookedAgain, followed, waited}
+use Rattle.hunting.specs.Hunting.{still, confirmed, lowAt, hunted, lookedAgain}
 use Rattle.sampler.specs.Sampler.{finished, sampled, assembled, sampleOf}
 use Rattle.sampler.specs.Lines.{Line, hears, listOf, arrivals}
 use Rattle.sampler.specs.Lines.Line.{pulse}
 use Rattle.demands.specs.Sampling.{Found, lines, levelAt, samples, beforeStop, characterAt, allAt, allSixteen, Samples}
 use Rattle.demands.specs.Sampling.{Sixteen, sampleAt, stopAt, allLow}
 use Rattle.demands.proofs.Laws.Samples.{samples-before-stop, samples-make, afterSamples, after-high, after-low, after-low-one, after-break}
+use Rattle.demands.proofs.Laws.Stopped.{lows-again, lows-until, next-low, break-lows, break-highs, break-waits, break-high}
 
 -- ---- the level of a pulse, once some are dropped ----
 
@@ -119,69 +121,32 @@ heard-one f ls more x w l =
     let gap : gapOf (f .sixteen) ≡ record { 0 = 0 } = ap gapOf x in
     rw (low-at-one f x, gap) (whole f 0 ls more (levelAt ls) gap w (omega arith) (λ i. ap (levelAt ls) (omega arith)))
 
--- ---- what follows the stop ----
+-- ---- too few pulses ----
 
--- the lows after a low stop, and then the one that is p
-lows-again : (n : ℕ) (g : Setting) (lows : Found) (more : List Line) → allAt false lows ≡ true → length lows ≡ n
-    → arrivals (afterLowStop n) (lines lows ++ pulse false g ∷ more) ≡ arrivals (hunting true) (pulse false g ∷ more)
-unfolding arrivals hears sampleOf hunted followed pick
-lows-again zero g [] more a l = refl
-lows-again (suc n) g [] more a l = absurd (omega arith)
-lows-again n g ((true, f) ∷ lows) more a l = absurd (true≢false (sym a))
-lows-again zero g ((false, f) ∷ lows) more a l = absurd (omega arith)
-lows-again (suc n) g ((false, f) ∷ lows) more a l =
+-- with so many samples still to come before the stop's, and so many pulses before the next one
+unfinished : (f : Setting) (m n k v : ℕ) (ls : Found) → gapOf (f .sixteen) ≡ record { 0 = 15 } → k + m ≡ samplesOf (f .format) .0
+    → length ls < suc n + 16 * m → arrivals (assembling f (record { 0 = n }) (record { 0 = k }) v) (lines ls) ≡ []
+unfolding arrivals hears sampleOf assembled sampled pick
+unfinished f m n k v [] e many l = refl
+unfinished f zero zero k v (p ∷ ls) e many l = absurd (omega arith)
+unfinished f (suc m) zero k v (p ∷ ls) e many l =
+    rw (lt-ltb k (samplesOf (f .format) .0) (omega arith), e) (unfinished f m 15 (k + 1) (withSample v k (p .0)) ls e (omega arith) (omega arith))
+unfinished f m (suc n) k v (p ∷ ls) e many l =
     let d : suc n - 1 ≡ n = omega arith in
-    rw (ne-eqb (suc n) 0 (λ q. omega arith), d) (lows-again n g lows more a (omega arith))
+    rw (ne-eqb (suc n) 0 (λ q. omega arith), d) (unfinished f m n k v ls e many (omega arith))
 
--- or a high
-lows-until : (n : ℕ) (g : Setting) (lows : Found) (more : List Line) → allAt false lows ≡ true → length lows ≤ n
-    → arrivals (afterLowStop n) (lines lows ++ pulse true g ∷ more) ≡ arrivals (hunting true) more
-unfolding arrivals hears sampleOf followed pick
-lows-until n g [] more a l = refl
-lows-until n g ((true, f) ∷ lows) more a l = absurd (true≢false (sym a))
-lows-until zero g ((false, f) ∷ lows) more a l = absurd (omega arith)
-lows-until (suc n) g ((false, f) ∷ lows) more a l =
+-- and from between the low at p and the pulse p+8 on
+unheard : (f : Setting) (n : ℕ) (ls : Found) → f .sixteen ≡ true → f .format .width .0 ≤ 8 → levelAt ls n ≡ false
+    → length ls < suc n + (16 + 16 * beforeStop (f .format)) → arrivals (starting f (record { 0 = n })) (lines ls) ≡ []
+unfolding arrivals hears sampleOf lookedAgain gapOf pick
+unheard f n [] x w low l = refl
+unheard f zero ((true, g) ∷ ls) x w low l = absurd (true≢false low)
+unheard f zero ((false, g) ∷ ls) x w low l =
+    let gap : gapOf (f .sixteen) ≡ record { 0 = 15 } = ap gapOf x in
+    rw gap (unfinished f (beforeStop (f .format)) 15 0 0 ls gap (zero-add _ ∙ sym (samples-before-stop (f .format) w)) (omega arith))
+unheard f (suc n) (p ∷ ls) x w low l =
     let d : suc n - 1 ≡ n = omega arith in
-    rw (ne-eqb (suc n) 0 (λ q. omega arith), d) (lows-until n g lows more a (omega arith))
-
--- at 1X the next low is a start, as after a high
-next-low : (rest : Found) → arrivals (afterLowStop 0) (lines rest) ≡ arrivals (hunting true) (lines rest)
-unfolding arrivals hears sampleOf hunted followed pick
-next-low [] = refl
-next-low ((true, f) ∷ rest) = refl
-next-low ((false, f) ∷ rest) = refl
-
--- the lows of a break that goes on
-break-lows : (lows : Found) (more : List Line) → allAt false lows ≡ true → arrivals (inBreak 7) (lines lows ++ more) ≡ arrivals (inBreak 7) more
-unfolding arrivals hears sampleOf waited pick
-break-lows [] more a = refl
-break-lows ((true, f) ∷ lows) more a = absurd (true≢false (sym a))
-break-lows ((false, f) ∷ lows) more a = break-lows lows more a
-
--- the highs that end it
-break-highs : (n : ℕ) (highs : Found) (more : List Line) → allAt true highs ≡ true → allSixteen highs ≡ true → length highs ≡ suc n
-    → arrivals (inBreak n) (lines highs ++ more) ≡ arrivals (hunting true) more
-unfolding arrivals hears sampleOf waited pick
-break-highs n [] more a x l = absurd (omega arith)
-break-highs n ((false, f) ∷ highs) more a x l = absurd (true≢false (sym a))
-break-highs zero ((true, f) ∷ []) more a x l = rw (and-eq-true-iff (f .sixteen) _ .0 x .0)
-break-highs zero ((true, f) ∷ h ∷ highs) more a x l = absurd (omega arith)
-break-highs (suc n) ((true, f) ∷ highs) more a x l =
-    let both = and-eq-true-iff (f .sixteen) _ .0 x in
-    let d : suc n - 1 ≡ n = omega arith in
-    rw (both .0, ne-eqb (suc n) 0 (λ q. omega arith), d) (break-highs n highs more a (both .1) (omega arith))
-
--- and too few
-break-waits : (n : ℕ) (g : Setting) (highs : Found) (more : List Line) → allAt true highs ≡ true → allSixteen highs ≡ true → length highs ≤ n
-    → arrivals (inBreak n) (lines highs ++ pulse false g ∷ more) ≡ arrivals (inBreak 7) more
-unfolding arrivals hears sampleOf waited pick
-break-waits n g [] more a x l = refl
-break-waits n g ((false, f) ∷ highs) more a x l = absurd (true≢false (sym a))
-break-waits zero g ((true, f) ∷ highs) more a x l = absurd (omega arith)
-break-waits (suc n) g ((true, f) ∷ highs) more a x l =
-    let both = and-eq-true-iff (f .sixteen) _ .0 x in
-    let d : suc n - 1 ≡ n = omega arith in
-    rw (both .0, ne-eqb (suc n) 0 (λ q. omega arith), d) (break-waits n g highs more a (both .1) (omega arith))
+    rw (ne-eqb (suc n) 0 (λ q. omega arith), d) (unheard f n ls x w low (omega arith))
 
 -- ---- the rule ----
 
@@ -203,6 +168,11 @@ sixteen-rule f ls rest x last = rw (heard-sixteen f ls (lines rest) x) (go (stop
         ≡ characterAt (f .format) (sampleAt ls) ∷ arrivals (hunting true) (lines rest)
     go true e = rw (after-high f (sampleAt ls) e)
     go false e = rw (last e)
+
+before-rule : (f : Setting) (ls : Found) → f .sixteen ≡ true → f .format .width .0 ≤ 8 → levelAt ls 7 ≡ false
+    → length ls < 24 + 16 * beforeStop (f .format) → arrivals (hunting true) (pulse false f ∷ lines ls) ≡ []
+unfolding arrivals hears sampleOf hunted pick
+before-rule f ls x w low l = rw (low-at-sixteen f x) (unheard f 7 ls x w low (omega arith))
 
 none-rule : (f : Setting) (ls rest : Found) → f .sixteen ≡ true → levelAt ls 7 ≡ true → length ls ≡ 8
     → arrivals (hunting true) (pulse false f ∷ lines ls ++ lines rest) ≡ arrivals (hunting true) (lines rest)
@@ -281,15 +251,37 @@ one-rule f ls rest x w l last =
     go true false e a = rw (after-high f (levelAt ls) e)
     go false false e a = rw (after-low-one f (levelAt ls) x e a, next-low rest)
 
+one-high-rule : (f g : Setting) (ls rest : Found) → Sixteen f ls → allLow f ls ≡ true → g .sixteen ≡ false
+    → arrivals (hunting true) (pulse false f ∷ lines ls ++ pulse true g ∷ lines rest) ≡ breakCharacter ∷ arrivals (hunting true) (lines rest)
+one-high-rule f g ls rest x all one = rw (heard-break f ls (pulse true g ∷ lines rest) x all, break-high 7 g (lines rest) one)
+
+one-break-rule : (f g : Setting) (ls lows rest : Found) → f .sixteen ≡ false → f .format .width .0 ≤ 8 → length ls ≡ beforeStop (f .format) + 1
+    → eqb (valueOf (samples (levelAt ls) (beforeStop (f .format) + 1))) 0 ≡ true → allAt false lows ≡ true → g .sixteen ≡ false
+    → arrivals (hunting true) (pulse false f ∷ lines ls ++ lines lows ++ pulse true g ∷ lines rest)
+    ≡ breakCharacter ∷ arrivals (hunting true) (lines rest)
+unfolding pick
+one-break-rule f g ls lows rest x w l all low one =
+    rw (
+      append-assoc (pulse false f ∷ lines ls) (lines lows) (pulse true g ∷ lines rest),
+      heard-one f ls (lines lows ++ pulse true g ∷ lines rest) x w l,
+      after-break f (levelAt ls) all,
+      all,
+      break-lows lows (pulse true g ∷ lines rest) low,
+      break-high 7 g (lines rest) one,
+    )
+
 pub samples-rule : Samples (arrivals (hunting true))
 samples-rule = record {
   high = high-rule;
   end = end-rule;
   sixteen = sixteen-rule;
+  before = before-rule;
   none = none-rule;
   again = again-rule;
   until = until-rule;
   break = break-rule;
   waits = waits-rule;
   one = one-rule;
+  oneHigh = one-high-rule;
+  oneBreak = one-break-rule;
 }

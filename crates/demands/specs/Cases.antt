@@ -196,7 +196,7 @@ abbrev pub case11 : List Row
 case11 = shows (timing ++ replicate 4 Tick) (Read 5) byte 8 ∷ shows (timing ++ replicate 3 Tick) (Read 5) byte 0 ∷ []
 
 abbrev pub table : List Row
-table = case1 ++ case2 ++ case3 ++ case4 ++ case4sent ++ case5 ++ case6 ++ case7 ++ case8 ++ case9 ++ case10 ++ case11
+table = (case1 ++ case2 ++ case3 ++ case4) ++ case4sent ++ (case5 ++ case6) ++ case7 ++ (case8 ++ case9 ++ case10 ++ case11)
 
 -- all hold
 abbrev pub Cases : Chip → Request → Type 0

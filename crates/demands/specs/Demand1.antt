@@ -50,6 +50,8 @@ pub record Demand1 (step : Step) (request : Request) : Type 0 where
   pub given : (mr1 mr2 x : ℕ) (space : List ℕ) → (mr1NotModelled mr1 || mr2NotModelled mr2) ≡ false → lengthAsked mr1 mr2 .0 ≤ length space
       → request mr1 mr2 x space .0 ≡ record { number = 0; length = lengthAsked mr1 mr2 }
   pub none : (mr1 mr2 x : ℕ) (space : List ℕ) → (request mr1 mr2 x space .0 .number ≡ 0 → ⊥) → request mr1 mr2 x space .0 .length .0 ≡ 0
+  -- "at most 192"
+  pub most : (mr1 mr2 x : ℕ) (space : List ℕ) → request mr1 mr2 x space .0 .length .0 ≤ 192
   -- accepted, the space holds the frame's levels and "space past it stays"
   pub written : (mr1 mr2 x : ℕ) (space : List ℕ) → request mr1 mr2 x space .0 .number ≡ 0
       → request mr1 mr2 x space .1 ≡ levelsAsked mr1 mr2 x ++ drop (lengthAsked mr1 mr2 .0) space

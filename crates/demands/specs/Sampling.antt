@@ -1,6 +1,6 @@
 -- Demand 3's arrivals "come from the sampling rule": the rule said by the pulses that are looked at, apart from how a sampler keeps count of them. Level i
 -- of a list is the line's at pulse p+1+i. Said of any way to put characters together from what is heard after a high. Assumes nothing.
-use Prim.Native.Nat.{ℕ, zero, suc, _+_, _*_, _≤_}
+use Prim.Native.Nat.{ℕ, zero, suc, _+_, _*_, _≤_, _<_}
 use mathlib.Core.Path.{_≡_}
 use mathlib.Core.Bool.{Bool, true, false, not, _&&_}
 use mathlib.Core.List.{List, [], _∷_, _++_, map}
@@ -92,6 +92,9 @@ pub record Samples (arrive : Assembly) : Type 0 where
   -- sample.": with a high stop, or at the end
   pub sixteen : (f : Setting) (ls rest : Found) → Sixteen f ls → (stopAt f ls ≡ false → rest ≡ [])
       → arrive (pulse false f ∷ lines ls ++ lines rest) ≡ characterAt (f .format) (sampleAt ls) ∷ arrive (lines rest)
+  -- and not before it
+  pub before : (f : Setting) (ls : Found) → f .sixteen ≡ true → f .format .width .0 ≤ 8 → levelAt ls 7 ≡ false
+      → length ls < 24 + 16 * beforeStop (f .format) → arrive (pulse false f ∷ lines ls) ≡ []
   -- "else hunt again"
   pub none : (f : Setting) (ls rest : Found) → f .sixteen ≡ true → levelAt ls 7 ≡ true → length ls ≡ 8
       → arrive (pulse false f ∷ lines ls ++ lines rest) ≡ arrive (lines rest)
@@ -113,3 +116,9 @@ pub record Samples (arrive : Assembly) : Type 0 where
   pub one : (f : Setting) (ls rest : Found) → f .sixteen ≡ false → f .format .width .0 ≤ 8 → length ls ≡ beforeStop (f .format) + 1
       → (eqb (valueOf (samples (levelAt ls) (beforeStop (f .format) + 1))) 0 ≡ true → rest ≡ [])
       → arrive (pulse false f ∷ lines ls ++ lines rest) ≡ characterAt (f .format) (levelAt ls) ∷ arrive (lines rest)
+  -- "one high ends a break": as CSR stands then
+  pub oneHigh : (f g : Setting) (ls rest : Found) → Sixteen f ls → allLow f ls ≡ true → g .sixteen ≡ false
+      → arrive (pulse false f ∷ lines ls ++ pulse true g ∷ lines rest) ≡ breakCharacter ∷ arrive (lines rest)
+  pub oneBreak : (f g : Setting) (ls lows rest : Found) → f .sixteen ≡ false → f .format .width .0 ≤ 8 → length ls ≡ beforeStop (f .format) + 1
+      → eqb (valueOf (samples (levelAt ls) (beforeStop (f .format) + 1))) 0 ≡ true → allAt false lows ≡ true → g .sixteen ≡ false
+      → arrive (pulse false f ∷ lines ls ++ lines lows ++ pulse true g ∷ lines rest) ≡ breakCharacter ∷ arrive (lines rest)
