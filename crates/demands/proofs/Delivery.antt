@@ -7,25 +7,15 @@ use mathlib.Core.List.{List, [], _∷_}
 use lib.Dec.{eqb}
 use Rattle.format.specs.Pick.{pick}
 use Rattle.format.proofs.Laws.Pick.{pick-all}
-use Rattle.sampler.specs.Lines.{hears}
-use Rattle.sampler.specs.Sampler.{sampleOf}
-use Rattle.queue.specs.Queue.{isEmptyOf}
 use Rattle.arrivals.specs.declared.arrivals.Receiver.{Receiver}
-use Rattle.arrivals.specs.Arrivals.{freshReceiver, pulsedOf}
-use Rattle.receiver_commands.specs.declared.commands.Effect.{Effect}
-use Rattle.receiver_commands.specs.declared.commands.Effect.the-variants.{NoEffect, Reset, ClearErrors, ClearBreakChange}
-use Rattle.receiver_commands.specs.declared.commands.Enabling.{Enabling}
-use Rattle.receiver_commands.specs.declared.commands.Enabling.the-variants.{Stays, Enables, Disables}
-use Rattle.receiver_commands.specs.Commands.{effectOf, enablingOf}
+use Rattle.arrivals.specs.Arrivals.{freshReceiver}
 use Rattle.receiver_status.specs.Status.{statusOf}
-use Rattle.receiver.specs.declared.receiver.Fed.{Fed}
 use Rattle.receiver.specs.declared.receiver.Feed.{Feed}
 use Rattle.receiver.specs.declared.receiver.Feed.the-variants as Feeds
-use Rattle.receiver.specs.Receiver.{oldestRead, readOf, fedOf}
+use Rattle.receiver.specs.Receiver.{fedOf}
 use Rattle.receiver.specs.Delivery as Receivers
-use Rattle.receiver.specs.Delivery.{Ledger, opened, effectWritten, enablingWritten, written, linesOver, given, reads}
-use Rattle.receiver.proofs.Delivery.{delivery}
-use Rattle.receiver.proofs.Laws.Waiting.{answered-sampler}
+use Rattle.receiver.specs.Delivery.{opened, linesOver, given, reads}
+use Rattle.receiver.proofs.Delivery.{delivery, same-sampler}
 use Rattle.commands.specs.Commands.{commandFeed}
 use Rattle.front.specs.declared.front.Front.{Front}
 use Rattle.front.specs.Front.{frontAt}
@@ -103,35 +93,6 @@ reads-from ch levels before (e ∷ es) =
       over-then frontThen (frontAt levels) before e,
     )
 
--- ---- the sampler run alone is the receiver's ----
-
-effect-sampler : (l : Ledger) (r : Receiver) (e : Effect) → l .sampler ≡ r .sampler → effectWritten l e .sampler ≡ effectOf r e .sampler
-unfolding effectOf hears
-effect-sampler l r NoEffect h = h
-effect-sampler l r Reset h = refl
-effect-sampler l r ClearErrors h = h
-effect-sampler l r ClearBreakChange h = h
-
-enabling-sampler : (l : Ledger) (r : Receiver) (t : Enabling) → l .sampler ≡ r .sampler → enablingWritten l t .sampler ≡ enablingOf r t .sampler
-unfolding enablingOf hears
-enabling-sampler l r Stays h = h
-enabling-sampler l r Enables h = refl
-enabling-sampler l r Disables h = refl
-
-fed-sampler : (l : Ledger) (r : Receiver) (x : Feed) → l .sampler ≡ r .sampler → written l x .sampler ≡ fedOf r x .receiver .sampler
-unfolding written fedOf hears pulsedOf readOf oldestRead
-fed-sampler l r Feeds.Nothing h = h
-fed-sampler l r (Feeds.Pulse level f) h = rw h (sym (answered-sampler r (sampleOf (r .sampler) level f)))
-fed-sampler l r (Feeds.Command e t) h = enabling-sampler (effectWritten l e) (effectOf r e) t (effect-sampler l r e h)
-fed-sampler l r Feeds.Read h = h ∙ pick-all (λ (x : Fed). r .sampler ≡ x .receiver .sampler) (isEmptyOf (r .queue)) _ _ refl refl
-fed-sampler l r Feeds.ChipReset h = refl
-
-feeds-sampler : (l : Ledger) (r : Receiver) (xs : List Feed) → l .sampler ≡ r .sampler
-    → Receivers.ledgerFrom l xs .sampler ≡ Receivers.after fedOf r xs .sampler
-unfolding Receivers.ledgerFrom Receivers.after
-feeds-sampler l r [] h = h
-feeds-sampler l r (x ∷ xs) h = feeds-sampler (written l x) (fedOf r x .receiver) xs (fed-sampler l r x h)
-
 -- ---- since a chip reset ----
 
 -- what the front hands on
@@ -161,7 +122,7 @@ reads-after ch levels es = reads-from ch levels [] es ∙ rw (reset-receiver ch 
 
 pub run-sampler : (levels : ℕ) (ch : Channel) (es : List Event) → receiverAt ch (runAt levels es) .sampler ≡ ledger ch levels es .sampler
 run-sampler levels ch es =
-    rw (receiver-after ch levels es, ledger-after ch levels es) (sym (feeds-sampler opened freshReceiver (feedsAfter ch levels es) refl))
+    rw (receiver-after ch levels es, ledger-after ch levels es) (sym (same-sampler (feedsAfter ch levels es)))
 
 pub demand-3 : Demand3 (chipOf stepOf)
 unfolding fedOf

@@ -6,22 +6,22 @@ use mathlib.Core.Path.{_≡_, refl, sym, ap, _∙_}
 use mathlib.Core.Bool.{Bool, true, false, true≢false}
 use mathlib.Core.List.{List, [], _∷_, _++_, append-assoc}
 use native.Mathlib.Omega.{arith}
-use native.Mathlib.Numerals.{add-one}
-use native.Mathlib.Nat.{pow-succ', zero-mul, add-zero, zero-add, suc-add, mul-suc}
+use native.Mathlib.Nat.{zero-mul, add-zero, zero-add, suc-add, mul-suc}
 use lib.Dec.{eqb}
 use lib.ListN.{length, drop, length-drop, drop-of-length-le}
 use borrow.Author.Tests.{lt-ltb, le-ltb, ne-eqb}
 use Rattle.format.specs.Pick.{pick}
-use Rattle.format.specs.Digits.{bit, valueOf}
+use Rattle.format.specs.Digits.{valueOf}
 use Rattle.format.proofs.Laws.Pick.{pick-yes, pick-no}
 use Rattle.character.specs.Character.{breakCharacter}
 use Rattle.assembly.specs.declared.state.Setting.{Setting}
 use Rattle.assembly.specs.Assembly.{samplesOf, withSample}
 use Rattle.assembly.specs.State.{hunting, starting, assembling, inBreak, gapOf}
-use Rattle.assembly.proofs.Laws.Assembly.{with-sample-small, with-sample-adds}
+use Rattle.assembly.proofs.Laws.Assembly.{with-sample-small}
 use Rattle.hunting.specs.Hunting.{still, confirmed, lowAt, hunted, lookedAgain}
 use Rattle.sampler.specs.Sampler.{finished, sampled, assembled, sampleOf}
 use Rattle.sampler.specs.Lines.{Line, hears, listOf, arrivals}
+use Rattle.sampler.proofs.Laws.Heard.{put-in}
 use Rattle.sampler.specs.Lines.Line.{pulse}
 use Rattle.demands.specs.Sampling.{Found, lines, levelAt, samples, beforeStop, characterAt, allAt, allSixteen, Samples}
 use Rattle.demands.specs.Sampling.{Sixteen, sampleAt, stopAt, allLow}
@@ -62,9 +62,6 @@ reaching f (suc n) k v (l ∷ ls) more h =
     rw (ne-eqb (suc n) 0 (λ q. omega arith), d) (reaching f n k v ls more (omega arith))
 
 -- ---- a character, sample by sample ----
-
-put-in : (b : Bool) (k v n : ℕ) → v < 2 ^ k → withSample v k b + n * 2 ^ (k + 1) ≡ v + (bit b + 2 * n) * 2 ^ k
-put-in b k v n h = rw (with-sample-adds v k b h, add-one k, pow-succ' 2 k) (omega arith)
 
 -- With `g` pulses passed over before each sample: so many more before the stop's, put in above the `k` that are taken, and then the stop's.
 gathering : (f : Setting) (g m k v : ℕ) (ls : Found) (more : List Line) (s : ℕ → Bool) → gapOf (f .sixteen) ≡ record { 0 = g } → v < 2 ^ k

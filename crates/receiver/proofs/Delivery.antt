@@ -66,7 +66,7 @@ given-held r = go (isEmptyOf (r .queue)) refl
     go true e = rw (e, is-empty-held (r .queue) .0 e)
     go false e = rw (e, oldest-held (r .queue) e)
 
-read-held : (r : Receiver) → r .queue .count ≤ 4 → heldOf (readOf r .receiver .queue) ≡ took (heldOf (r .queue))
+pub read-held : (r : Receiver) → r .queue .count ≤ 4 → heldOf (readOf r .receiver .queue) ≡ took (heldOf (r .queue))
 unfolding readOf oldestRead pick
 read-held r h = go (isEmptyOf (r .queue)) refl
   where
@@ -212,11 +212,17 @@ unfolding ledgerFrom linesOver arrivals
 all-after l [] = append-nil _
 all-after l (e ∷ es) = all-fed l e (linesOver es) ∙ all-after (written l e) es
 
+-- after a chip reset
+in-step : (es : List Feed) → InStep (ledger es) (after fedOf freshReceiver es) (reads fedOf statusOf freshReceiver es)
+in-step es = in-step-after opened freshReceiver [] es (omega arith) (record { sampler = refl; tells = rw held-empty nothing; overran = refl })
+
+pub same-sampler : (es : List Feed) → ledger es .sampler ≡ after fedOf freshReceiver es .sampler
+same-sampler es = in-step es .sampler
+
 pub delivery : Delivers fedOf statusOf
 unfolding fedOf
 delivery r es =
-    let h : InStep (ledger es) (after fedOf freshReceiver es) (reads fedOf statusOf freshReceiver es) =
-    in-step-after opened freshReceiver [] es (omega arith) start in
+    let h = in-step es in
     record {
       all = sym (all-after opened es);
       fates = tells-fates (h .tells);
@@ -224,6 +230,3 @@ delivery r es =
       overrun = λ block. sym (h .overran);
       marks = shown-held (after fedOf freshReceiver es) ∙ sym (tells-marks (h .tells));
     }
-  where
-    start : InStep opened freshReceiver []
-    start = record { sampler = refl; tells = rw held-empty nothing; overran = refl }

@@ -2,7 +2,7 @@
 -- holds, and so many reads give all. Assumes nothing.
 use Prim.Native.Nat.{ℕ, zero, suc, _≤_}
 use mathlib.Core.Path.{_≡_, refl, sym, _∙_}
-use mathlib.Core.Bool.{Bool, true, false, not, and-false, and-eq-true-iff}
+use mathlib.Core.Bool.{true, false, not, and-false, and-eq-true-iff}
 use mathlib.Core.List.{List, [], _∷_, _++_}
 use native.Mathlib.Omega.{arith}
 use lib.ListN.{length, take, replicate}
@@ -10,16 +10,16 @@ use borrow.Author.Tests.{leb-true}
 use Rattle.format.specs.Pick.{pick}
 use Rattle.character.specs.declared.character.Character.{Character}
 use Rattle.queue.specs.Queue.{heldOf, took, isEmptyOf}
-use Rattle.queue.proofs.Laws.Queue.{held-length, held-took, is-empty-held}
+use Rattle.queue.proofs.Laws.Queue.{held-length, is-empty-held}
 use Rattle.sampler.specs.Sound.{samplerInRange}
 use Rattle.arrivals.specs.declared.arrivals.Receiver.{Receiver}
 use Rattle.receiver_commands.specs.Commands.{effectOf, enablingOf}
 use Rattle.receiver_status.specs.Status.{statusOf}
 use Rattle.receiver.specs.declared.receiver.Feed.the-variants as Feeds
-use Rattle.receiver.specs.Receiver.{oldestRead, readOf, fedOf}
+use Rattle.receiver.specs.Receiver.{fedOf}
 use Rattle.receiver.specs.Sound.{receiverInRange}
 use Rattle.receiver.specs.Delivery.{given}
-use Rattle.receiver.proofs.Delivery.{given-held}
+use Rattle.receiver.proofs.Delivery.{given-held, read-held}
 use Rattle.transmitter.specs.Status as Transmitters
 use Rattle.soundness.specs.Soundness.{receiverSound}
 use Rattle.side.specs.Side.{modeNotModelled, modeWritten}
@@ -134,18 +134,10 @@ four-held : (ch : Channel) (d : Device) → isSoundOf d ≡ true → length (hel
 four-held ch d s = let four = four-counted ch d s in rw (held-length (receiverAt ch d .queue) four) four
 
 -- "A read takes the oldest"
-took-held : (r : Receiver) → r .queue .count ≤ 4 → heldOf (readOf r .receiver .queue) ≡ took (heldOf (r .queue))
-unfolding readOf oldestRead pick
-took-held r h = go (isEmptyOf (r .queue)) refl
-  where
-    go : (t : Bool) → isEmptyOf (r .queue) ≡ t → heldOf (readOf r .receiver .queue) ≡ took (heldOf (r .queue))
-    go true e = rw (e, is-empty-held (r .queue) .0 e)
-    go false e = rw e (held-took (r .queue) h)
-
 pub read-taken : (ch : Channel) (d : Device) → isSoundOf d ≡ true → heldAt ch (stepOf d (Read (registerOf ch 3)) .state) ≡ took (heldAt ch d)
 unfolding fedOf pick
-read-taken A d s = rw (step-receiver A d (Read 3) s, hands A (d .front) (Read 3)) (took-held (d .a) (four-counted A d s))
-read-taken B d s = rw (step-receiver B d (Read 11) s, hands B (d .front) (Read 11)) (took-held (d .b) (four-counted B d s))
+read-taken A d s = rw (step-receiver A d (Read 3) s, hands A (d .front) (Read 3)) (read-held (d .a) (four-counted A d s))
+read-taken B d s = rw (step-receiver B d (Read 11) s, hands B (d .front) (Read 11)) (read-held (d .b) (four-counted B d s))
 
 -- ---- so many reads ----
 

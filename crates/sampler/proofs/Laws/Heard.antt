@@ -77,7 +77,7 @@ ran-then {f} {s} {t} {u} {a} {b} h k =
       ends = rw (reached-append f s a b, h .ends, k .ends);
     }
 
-put-in : (b : Bool) (k v n : ℕ) → v < 2 ^ k → withSample v k b + n * 2 ^ (k + 1) ≡ v + (bit b + 2 * n) * 2 ^ k
+pub put-in : (b : Bool) (k v n : ℕ) → v < 2 ^ k → withSample v k b + n * 2 ^ (k + 1) ≡ v + (bit b + 2 * n) * 2 ^ k
 put-in b k v n h = rw (with-sample-adds v k b h, add-one k, pow-succ' 2 k) (omega arith)
 
 module _ (f : Format) where
