@@ -15,5 +15,7 @@ pub mod Received
 pub mod Transmits
 pub mod Sends
 pub mod ReadBack
-pub mod ReadBackExample
 pub mod Cases
+pub mod Examples
+pub mod SamplingExamples
+pub mod Wired

@@ -1,0 +1,120 @@
+-- What the sampling rule supposes is met, by computing the definitions, with what then arrives: a frame, a low stop, a break, a low that is too short,
+-- and at 1X. Assumes nothing.
+use mathlib.Core.Path.{_≡_, refl}
+use mathlib.Core.Bool.{Bool, true, false}
+use mathlib.Core.List.{List, [], _∷_, _++_, map}
+use native.Mathlib.Omega.{arith}
+use lib.Dec.{eqb}
+use lib.ListN.{length, drop, replicate, take}
+use Rattle.format.specs.Digits.{bitsOf, valueOf, oddOnes}
+use Rattle.format.specs.Format.{formatOf}
+use Rattle.format.specs.Parity.{parityBitOf, parityBits}
+use Rattle.format.specs.Pick.{pick}
+use Rattle.format.specs.Stop.{stopLengthOf, rowOf, stopBitsOf}
+use Rattle.frame.specs.Levels as Levels
+use Rattle.frame.specs.Levels.{bitsBeforeStopOf, spread, levels, frame, frameLengthOf, frameBitsOf, levelOf}
+use Rattle.character.specs.declared.character.Character.{Character}
+use Rattle.character.specs.Character.{breakCharacter, clean}
+use Rattle.assembly.specs.declared.state.Setting.{Setting}
+use Rattle.assembly.specs.Assembly.{dataWidthOf, samplesOf, withSample, parityWrongOf, characterOf}
+use Rattle.assembly.specs.State.{hunting, gapOf, afterStop}
+use Rattle.hunting.specs.Hunting.{lowAt, hunted, lookedAgain, followed, waited}
+use Rattle.sampler.specs.Sampler.{finished, sampled, assembled, sampleOf}
+use Rattle.sampler.specs.Lines.{hears, arrivals}
+use Rattle.sampler.specs.Lines.Line.{pulse}
+use Rattle.demands.specs.Sampling.{Found, lines, levelAt, samples, characterAt, allAt, allSixteen, Sixteen, sampleAt, stopAt, allLow}
+
+-- MR1 19: 8 data bits, no parity; with 16X pulses, and with 1X
+abbrev fast : Setting
+fast = record { format = formatOf 19; sixteen = true }
+
+abbrev slow : Setting
+slow = record { format = formatOf 19; sixteen = false }
+
+abbrev at : Setting → List Bool → Found
+at f ls = map (λ (level : Bool). (level, f)) ls
+
+-- what arrives of a low and these, after a high
+abbrev after : Setting → Found → List Character
+after f ls = arrivals (hunting true) (pulse false f ∷ lines ls)
+
+-- ---- the levels after the low at p, to the first stop sample ----
+
+-- the frame of 85
+abbrev framed : Found
+framed = at fast (take 152 (drop 1 (frame true (formatOf 19) 7 85)))
+
+-- 254 with a low stop
+abbrev unstopped : Found
+unstopped = at fast (replicate 24 false ++ replicate 112 true ++ replicate 16 false)
+
+abbrev broken : Found
+broken = at fast (replicate 152 false)
+
+-- high at p+8
+abbrev short : Found
+short = at fast (replicate 7 false ++ true ∷ [])
+
+-- at 1X: 254, and a break
+abbrev once : Found
+once = at slow (false ∷ replicate 8 true)
+
+abbrev onceBroken : Found
+onceBroken = at slow (replicate 9 false)
+
+-- ---- by computing ----
+
+pub record SamplingExamples : Type 0 where
+  pub of-frame : Sixteen fast framed
+  pub stopped : stopAt fast framed ≡ true
+  pub character : characterAt (formatOf 19) (sampleAt framed) ≡ clean 85
+  pub arrives : after fast framed ≡ clean 85 ∷ []
+  -- and not before the stop sample
+  pub early : (levelAt (take 151 framed) 7 ≡ false) × (length (take 151 framed) ≡ 151)
+  pub not-yet : after fast (take 151 framed) ≡ []
+  pub too-short : (levelAt short 7 ≡ true) × (length short ≡ 8)
+  pub nothing : after fast short ≡ []
+  -- a low stop: the character has the framing mark
+  pub of-unstopped : Sixteen fast unstopped
+  pub low-stop : (stopAt fast unstopped ≡ false) × (allLow fast unstopped ≡ false)
+  pub framing : map (λ (x : Character). x .marks .framing) (after fast unstopped) ≡ true ∷ []
+  -- seven lows more, which the next makes a new low at p; eight highs
+  pub lows : (allAt false (at fast (replicate 7 false)) ≡ true) × (length (at fast (replicate 7 false)) ≡ 7)
+  pub highs : (allAt true (at fast (replicate 8 true)) ≡ true) × (allSixteen (at fast (replicate 8 true)) ≡ true)
+  -- a break
+  pub of-break : Sixteen fast broken
+  pub all-low : allLow fast broken ≡ true
+  pub break : after fast broken ≡ breakCharacter ∷ []
+  -- at 1X
+  pub of-once : length once ≡ 9
+  pub other : eqb (valueOf (samples (levelAt once) 9)) 0 ≡ false
+  pub one : after slow once ≡ clean 254 ∷ []
+  pub once-broken : eqb (valueOf (samples (levelAt onceBroken) 9)) 0 ≡ true
+  pub one-break : after slow onceBroken ≡ breakCharacter ∷ []
+
+pub sampling-examples : SamplingExamples
+unfolding bitsOf valueOf oddOnes formatOf parityBitOf parityBits pick stopLengthOf rowOf stopBitsOf Levels.beforeStop bitsBeforeStopOf spread levels frame frameLengthOf frameBitsOf levelOf dataWidthOf samplesOf withSample parityWrongOf characterOf gapOf afterStop lowAt hunted lookedAgain followed waited finished sampled assembled sampleOf hears arrivals
+sampling-examples =
+    record {
+      of-frame = record { sixteen = refl; width = omega arith; low = refl; end = refl };
+      stopped = refl;
+      character = refl;
+      arrives = refl;
+      early = (refl, refl);
+      not-yet = refl;
+      too-short = (refl, refl);
+      nothing = refl;
+      of-unstopped = record { sixteen = refl; width = omega arith; low = refl; end = refl };
+      low-stop = (refl, refl);
+      framing = refl;
+      lows = (refl, refl);
+      highs = (refl, refl);
+      of-break = record { sixteen = refl; width = omega arith; low = refl; end = refl };
+      all-low = refl;
+      break = refl;
+      of-once = refl;
+      other = refl;
+      one = refl;
+      once-broken = refl;
+      one-break = refl;
+    }
