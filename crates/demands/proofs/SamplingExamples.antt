@@ -81,6 +81,14 @@ pub record SamplingExamples : Type 0 where
   -- seven lows more, which the next makes a new low at p; eight highs
   pub lows : (allAt false (at fast (replicate 7 false)) ≡ true) × (length (at fast (replicate 7 false)) ≡ 7)
   pub highs : (allAt true (at fast (replicate 8 true)) ≡ true) × (allSixteen (at fast (replicate 8 true)) ≡ true)
+  -- and fewer of each, with a high or a low after them
+  pub three-lows : (allAt false (at fast (replicate 3 false)) ≡ true) × (length (at fast (replicate 3 false)) ≡ 3)
+  pub until : map (λ (x : Character). x .byte) (after fast (unstopped ++ at fast (replicate 3 false ++ true ∷ false ∷ []) ++ framed)) ≡ 254 ∷ 85 ∷ []
+  pub three-highs : (allAt true (at fast (replicate 3 true)) ≡ true) × (allSixteen (at fast (replicate 3 true)) ≡ true)
+  pub ends : after fast (broken ++ at fast (replicate 3 true ++ replicate 7 true) ++ at fast (false ∷ []) ++ framed) ≡ breakCharacter ∷ clean 85 ∷ []
+  pub waits : after fast (broken ++ at fast (replicate 3 true ++ false ∷ replicate 7 true) ++ at fast (false ∷ []) ++ framed) ≡ breakCharacter ∷ []
+  -- one high at 1X ends it
+  pub one-high : after fast (broken ++ at slow (true ∷ []) ++ at fast (false ∷ []) ++ framed) ≡ breakCharacter ∷ clean 85 ∷ []
   -- a break
   pub of-break : Sixteen fast broken
   pub all-low : allLow fast broken ≡ true
@@ -109,6 +117,12 @@ sampling-examples =
       framing = refl;
       lows = (refl, refl);
       highs = (refl, refl);
+      three-lows = (refl, refl);
+      until = refl;
+      three-highs = (refl, refl);
+      ends = refl;
+      waits = refl;
+      one-high = refl;
       of-break = record { sixteen = refl; width = omega arith; low = refl; end = refl };
       all-low = refl;
       break = refl;
