@@ -232,7 +232,7 @@ pub record ByTimer : Type 0 where
 
 -- 1, 2, 3, 4 and 5 arrive, the fifth's start while the fourth waits; then one is read
 abbrev readOne : List Event
-readOne = fiveArrive ++ Read 3 ∷ []
+readOne = fiveArrive false ++ Read 3 ∷ []
 
 abbrev arrived : List Character
 arrived = clean 1 ∷ clean 2 ∷ clean 3 ∷ clean 4 ∷ clean 5 ∷ []

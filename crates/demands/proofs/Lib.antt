@@ -1,4 +1,4 @@
--- The three demands and the eleven cases, proved, and the laws that they go by.
+-- The three demands and the eleven cases, proved, and the laws that they go by; what meets their hypotheses; wrong chips that they shut out.
 pub mod Laws
 pub mod Reached
 pub mod Demand1
@@ -19,3 +19,4 @@ pub mod Cases
 pub mod Examples
 pub mod SamplingExamples
 pub mod Wired
+pub mod Wrong

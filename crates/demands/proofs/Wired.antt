@@ -217,9 +217,10 @@ pub record Frames : Type 0 where
   pub last : pulsesFrom 255 A (andThen sends Tick) (replicate 959 Tick) ≡ 159
   pub next : pulsedAfter transmits A 255 (andThen sends Tick ++ replicate 959 Tick) Tick ≡ true
   pub empty : statusBit c 255 A (andThen sends Tick ++ replicate 959 Tick) 2 ≡ true
-  pub listens : Listens c 255 A listening
-  pub undisturbed : allOf (undisturbed A) (arrives 85) ≡ true
-  pub found : linesFrom A 255 listening (arrives 85) ≡ carried (at16 (formatAfter A listening)) (frame true (formatAfter A listening) 7 85)
+  pub listens : Listens c 255 A (listening true)
+  pub undisturbed : allOf (undisturbed A) (arrives true 85) ≡ true
+  pub found : linesFrom A 255 (listening true) (arrives true 85)
+      ≡ carried (at16 (formatAfter A (listening true))) (frame true (formatAfter A (listening true)) 7 85)
 
 -- ---- by computing ----
 
@@ -285,6 +286,6 @@ wired-examples =
         empty = refl;
         listens = record { idle = record { hunts = refl; high = refl }; enabled = refl; empty = refl };
         undisturbed = refl;
-        found = lines-from A 255 listening (arrives 85) ∙ refl;
+        found = lines-from A 255 (listening true) (arrives true 85) ∙ refl;
       };
     }

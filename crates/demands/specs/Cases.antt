@@ -84,23 +84,22 @@ unfoldable pub heard : List Bool → List Event
 heard [] = []
 heard (level ∷ ls) = Pins (pick level 239 175) ∷ Pins (pick level 255 191) ∷ heard ls
 
--- "Receiver only": MR1 19, MR2 7, CSR code 14, and the receiver enabled; then one high
-abbrev pub listening : List Event
-listening = Write 0 19 ∷ Write 0 7 ∷ Write 1 238 ∷ Write 2 1 ∷ heard (true ∷ [])
+-- "Receiver only": MR1 19, MR2 7, CSR code 14 (16X) or 15 (1X), and the receiver enabled; then one high
+abbrev pub listening : Bool → List Event
+listening sixteen = Write 0 19 ∷ Write 0 7 ∷ Write 1 (pick sixteen 238 255) ∷ Write 2 1 ∷ heard (true ∷ [])
 
-abbrev pub arrives : ℕ → List Event
-arrives x = heard (frame true (formatOf 19) 7 x)
+abbrev pub arrives : Bool → ℕ → List Event
+arrives sixteen x = heard (frame sixteen (formatOf 19) 7 x)
 
-abbrev pub fourArrive : List Event
-fourArrive = listening ++ arrives 1 ++ arrives 2 ++ arrives 3 ++ arrives 4
+abbrev pub fourArrive : Bool → List Event
+fourArrive sixteen = listening sixteen ++ arrives sixteen 1 ++ arrives sixteen 2 ++ arrives sixteen 3 ++ arrives sixteen 4
 
--- the low at p and those to p+8
-abbrev pub starts : List Event
-starts = heard (replicate 9 false)
+abbrev pub fiveArrive : Bool → List Event
+fiveArrive sixteen = fourArrive sixteen ++ arrives sixteen 5
 
--- the fifth
-abbrev pub fiveArrive : List Event
-fiveArrive = fourArrive ++ arrives 5
+-- four have arrived at 1X; at 16X then the low at p and so many more
+abbrev pub lowFor : ℕ → List Event
+lowFor n = fourArrive false ++ Write 1 238 ∷ heard (replicate n false)
 
 -- transmitter A on code 11, MR1 19, MR2 7, and 85 to send: its start comes with tick 24; another is written then
 abbrev pub sends : List Event
@@ -163,28 +162,34 @@ case5 = asks 2 7 65 (middle 8) 0 ∷ asks 6 7 65 (middle 8) 1 ∷ []
 abbrev pub case6 : List Row
 case6 = asks 16 7 255 (value 5) 31 ∷ asks 16 7 255 pulses 120 ∷ []
 
--- "Receiver only, 1, 2, 3, 4 arrive: SR 3; next start: SR 19; 5 arrives: reads 1, 2, 3, 5."
+-- "Receiver only, 1, 2, 3, 4 arrive: SR 3; next start: SR 19; 5 arrives: reads 1, 2, 3, 5.": at 1X, where a low is a start, and at 16X, where the ninth is
 abbrev pub case7 : List Row
 case7 =
-    shows fourArrive (Read 1) byte 3
-    ∷ shows (fourArrive ++ heard (replicate 8 false)) (Read 1) byte 3
-    ∷ shows (fourArrive ++ starts) (Read 1) byte 19
-    ∷ shows fiveArrive (Read 3) byte 1
-    ∷ shows (fiveArrive ++ Read 3 ∷ []) (Read 3) byte 2
-    ∷ shows (fiveArrive ++ Read 3 ∷ Read 3 ∷ []) (Read 3) byte 3
-    ∷ shows (fiveArrive ++ Read 3 ∷ Read 3 ∷ Read 3 ∷ []) (Read 3) byte 5
+    shows (fourArrive false) (Read 1) byte 3
+    ∷ shows (fourArrive false ++ heard (false ∷ [])) (Read 1) byte 19
+    ∷ shows (fiveArrive false) (Read 3) byte 1
+    ∷ shows (fiveArrive false ++ Read 3 ∷ []) (Read 3) byte 2
+    ∷ shows (fiveArrive false ++ Read 3 ∷ Read 3 ∷ []) (Read 3) byte 3
+    ∷ shows (fiveArrive false ++ Read 3 ∷ Read 3 ∷ Read 3 ∷ []) (Read 3) byte 5
+    ∷ shows (fourArrive true) (Read 1) byte 3
+    ∷ shows (lowFor 8) (Read 1) byte 3
+    ∷ shows (lowFor 9) (Read 1) byte 19
+    ∷ shows (fiveArrive true ++ Read 3 ∷ Read 3 ∷ Read 3 ∷ []) (Read 3) byte 5
     ∷ []
 
 -- "Four arrive unread, receiver reset: SR 0, read 0."
 abbrev pub case8 : List Row
-case8 = shows (fourArrive ++ Write 2 32 ∷ []) (Read 1) byte 0 ∷ shows (fourArrive ++ Write 2 32 ∷ []) (Read 3) byte 0 ∷ []
+case8 =
+    shows (fourArrive false ++ Write 2 32 ∷ []) (Read 1) byte 0
+    ∷ shows (fourArrive false ++ Write 2 32 ∷ []) (Read 3) byte 0
+    ∷ []
 
 -- "Low 8 pulses, high at p+8: nothing. Low at p+8: a start.": with the line high from then on no character comes, or one does, of ones
 abbrev pub case9 : List Row
 case9 =
-    shows (listening ++ heard (replicate 8 false ++ replicate 200 true)) (Read 1) byte 0
-    ∷ shows (listening ++ heard (replicate 9 false ++ replicate 200 true)) (Read 1) byte 1
-    ∷ shows (listening ++ heard (replicate 9 false ++ replicate 200 true)) (Read 3) byte 255
+    shows (listening true ++ heard (replicate 8 false ++ replicate 200 true)) (Read 1) byte 0
+    ∷ shows (listening true ++ heard (replicate 9 false ++ replicate 200 true)) (Read 1) byte 1
+    ∷ shows (listening true ++ heard (replicate 9 false ++ replicate 200 true)) (Read 3) byte 255
     ∷ []
 
 -- "Counter on ticks/16, phase 0, preload 3: ISR bit 3 after 48 ticks, not 47."

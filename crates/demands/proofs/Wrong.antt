@@ -1,0 +1,9 @@
+-- Wrong chips, each right but for one fault, and each shut out by a statement. Assumes nothing.
+pub mod Chips
+pub mod Laws
+pub mod Counter
+pub mod Received
+pub mod Delivery
+pub mod Sending
+pub mod ReadBack
+pub mod Cases

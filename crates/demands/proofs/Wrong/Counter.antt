@@ -1,0 +1,184 @@
+-- What is said of the counter/timer shuts wrong chips out: from a start on, and after any events. A law is taken at a few events, where what the wrong
+-- one answers and what the law says are computed, and differ. Assumes nothing.
+use Prim.Native.Nat.{ℕ, _*_, _<_}
+use mathlib.Core.Path.{refl, sym}
+use mathlib.Core.Bool.{true, false, not, _&&_, _||_, true≢false}
+use mathlib.Core.List.{List, [], _∷_, _++_}
+use native.Mathlib.Omega.{arith}
+use borrow.Author.Tests.{eqb-false}
+use lib.Dec.{eqb}
+use lib.ListN.{replicate}
+use Rattle.format.specs.Digits.{bitsOf, valueOf, oddOnes}
+use Rattle.format.specs.Format.{formatOf}
+use Rattle.format.specs.Parity.{parityBitOf, parityBits}
+use Rattle.format.specs.Pick.{pick}
+use Rattle.format.specs.Stop.{stopLengthOf, rowOf, stopBitsOf}
+use Rattle.frame.specs.Levels.{beforeStop, bitsBeforeStopOf, spread, levels, frame, frameLengthOf, frameBitsOf, levelOf}
+use Rattle.assembly.specs.Assembly.{dataWidthOf, samplesOf, withSample, parityWrongOf, characterOf}
+use Rattle.assembly.specs.State.{gapOf, afterStop}
+use Rattle.hunting.specs.Hunting.{lowAt, hunted, lookedAgain, followed, waited}
+use Rattle.sampler.specs.Sampler.{finished, sampled, assembled, sampleOf}
+use Rattle.queue.specs.Queue.{heldOf, putOf, withoutWaitingOf, tookOf}
+use Rattle.arrivals.specs.Arrivals.{oldestMarks, enteredOf, arrivedOf}
+use Rattle.receiver_commands.specs.Commands.{effectOf, enablingOf}
+use Rattle.receiver_status.specs.Status.{shownMarks}
+use Rattle.receiver.specs.Receiver.{oldestRead, readOf, fedOf}
+use Rattle.sending.specs.Sending.{begunOf, bitOfPulse, sentOnOf, heldHigh}
+use Rattle.transmitter.specs.Commands.{writtenOf, breakEnded, droppedOf, breakAsked}
+use Rattle.transmitter.specs.Transmitter.{afterInput}
+use Rattle.dividers.specs.Divider.{dividedOf, sixteenthOf}
+use Rattle.dividers.specs.Rates.{periodOf}
+use Rattle.clocks.specs.Channel.{restartedOnChange, tickedOf, sideOf, transmitter1x}
+use Rattle.counting.specs.Counting.{counterPulsed, timerPulsed, pulsedBy}
+use Rattle.timer.specs.Timer.{tickedBy, edgedBy, stoppedOf, modeChanged}
+use Rattle.bytes.specs.Bytes.{hasBit, weightOf, byteOf}
+use Rattle.inputs.specs.Inputs.{movedOf, pinsOfA, pinsOfB}
+use Rattle.outputs.specs.Outputs.{drivenBy, drivenOp3, opLevels}
+use Rattle.side.specs.Side.{freshSide, modeRegister, modeNotModelled, modeWritten, csrWritten, setChanged, bufferWritten}
+use Rattle.side_clocks.specs.Clocking.{transmitterPulsed, lineOf, sideClocked}
+use Rattle.commands.specs.Commands.{transmitterEffect, receiverEffect, transmitterEnabling, receiverEnabling, sideCommanded, commandFeed}
+use Rattle.shown.specs.Shown.{receivedOf, shownOf}
+use Rattle.front.specs.Front.{frontAt}
+use Rattle.front_clocks.specs.Clocking.{countedOf, clockedWith, levelsMoved}
+use Rattle.writes.specs.Writes.{sideWritten, acrWritten, sharedWritten, registerWritten}
+use Rattle.reads.specs.Reads.{sideRead, sharedRead, registerRead, frontData}
+use Rattle.events.specs.Refusals.{registerAbove15, forbiddenRead, forbiddenCommand}
+use Rattle.front_events.specs.FrontEvents.{frontStepped}
+use Rattle.front_events.specs.NotModelled.{writeNotModelled, settingNotModelled}
+use Rattle.answers.specs.Answers.{assertedOf, timerLevel, linesOf, registerData, eventData}
+use Rattle.device.specs.Device.{freshDevice}
+use Rattle.refusals.specs.Refusals.{acknowledgedUnasserted, firstOf}
+use Rattle.duart.specs.Duart.{numberOf, refusalLines, stepOf}
+use Rattle.arrivals.specs.Arrivals as inArrivals
+use Rattle.timer.specs.Timer as inTimer
+use Rattle.sending.specs.Sending as inSending
+use Rattle.duart.specs.Duart as inDuart
+use Rattle.clocks.specs.Channel as inClocks
+use Rattle.front_clocks.specs.Clocking as inFrontClocks
+use Rattle.counting.specs.declared.counting.Timer.{Timer}
+use Rattle.counting.specs.Counting.{withCount, withRunning, withReady, withPhases, modeOf, isTimer}
+use Rattle.front.specs.Front.{withTimer}
+use Rattle.request.specs.Request.{firstRefusal, answerOf, requestOf, spaceAfter}
+use Rattle.events.specs.declared.events.Event.{Event}
+use Rattle.events.specs.declared.events.Event.the-variants.{ChipReset, Read, Write, Pins, Tick}
+use Rattle.device.specs.declared.device.Device.{Device}
+use Rattle.chip.specs.Alone.{handedAfter}
+use Rattle.chip.specs.Sound.{after}
+use Rattle.chip.specs.Table.{Step}
+use Rattle.chip.proofs.Wrong.{isReset, isReadOf}
+use Rattle.demands.specs.Chip.{chipOf, over}
+use Rattle.demands.specs.Told.{programmedThen}
+use Rattle.demands.specs.Clocks.{clocksOf}
+use Rattle.demands.specs.Clocks as inChipClocks
+use Rattle.demands.specs.Counter.{elapsedThen, Loaded, Counter}
+use Rattle.demands.specs.Counted.{timerThen, timerFrom, Counted}
+use Rattle.demands.proofs.Wrong.Chips.{isWriteOf, isClock, withFront, neverTerminal, countsNothing, leadsTo, stopsNothing}
+
+-- ---- more that are wrong ----
+
+abbrev timerOf : Device → Timer
+timerOf d = d .front .timer
+
+abbrev timerInstead : Device → Timer → Device
+timerInstead d t = withFront d (withTimer (d .front) t)
+
+abbrev modeIn : Device → ℕ
+modeIn d = modeOf (d .front .acr)
+
+-- "Chip reset: .. counter stopped": it runs
+abbrev resetRuns : Step
+resetRuns = leadsTo (λ d e x. pick (isReset e) (timerInstead x (withRunning (timerOf x) true)) x)
+
+-- "start loads the preload": so does a write of it
+abbrev preloadCounts : Step
+preloadCounts =
+    leadsTo
+    (λ d e x. pick (isWriteOf 6 e || isWriteOf 7 e) (timerInstead x (withCount (timerOf x) (timerOf x .preload) (timerOf x .output))) x)
+
+-- "0-3 counter on rising IP2, TxCA 1X, TxCB 1X, ..": in modes 1 and 2 nothing is counted
+abbrev transmittersUncounted : Step
+transmittersUncounted =
+    leadsTo
+    (λ d e x. pick (isClock e && (eqb (modeIn d) 1 || eqb (modeIn d) 2))
+    (timerInstead x (withReady (withCount (timerOf x) (timerOf d .count) (timerOf d .output)) (timerOf d .ready)))
+    x)
+
+-- "Timer: .. stop clears the bit only": it halts until a start or another mode, though the /16 phases go on
+abbrev stopHalts : Step
+stopHalts =
+    leadsTo
+    (λ d e x. pick (isTimer (modeIn d))
+    (pick (isReadOf 15 e) (timerInstead x (withRunning (timerOf x) false))
+    (pick (isReadOf 14 e) (timerInstead x (withRunning (timerOf x) true))
+    (pick (isClock e && not (timerOf d .running)) (timerInstead x (withPhases (timerOf d) (timerOf x .ticks) (timerOf x .edges))) x)))
+    x)
+
+-- ---- the events ----
+
+-- preload 1 in mode m
+abbrev preloaded : ℕ → List Event
+preloaded mode = Write 4 (16 * mode) ∷ Write 6 0 ∷ Write 7 1 ∷ []
+
+abbrev sixteen : List Event
+sixteen = replicate 16 Tick
+
+-- IP2 falls and rises
+abbrev rises : List Event
+rises = Pins 251 ∷ Pins 255 ∷ []
+
+-- a counter on transmitter A's 1X clock, which is its pin's: preload 5, a start and a pulse
+abbrev transmits : List Event
+transmits = Write 1 255 ∷ Write 7 5 ∷ Write 4 16 ∷ Read 14 ∷ Pins 247 ∷ []
+
+-- a timer on ticks, preload 5, a stop and a tick
+abbrev halted : List Event
+halted = Write 7 5 ∷ Write 4 96 ∷ Read 15 ∷ Tick ∷ []
+
+-- ---- shut out ----
+
+one-preload : 1 < 65536
+one-preload = omega arith
+
+-- started after its preload
+abbrev Started : ℕ → List Event → Type 0
+Started mode fs = Loaded mode (preloaded mode) (Read 14) fs
+
+pub record WrongCounter : Type 0 where
+  -- the count, the counter's terminal and the timer's, and the stop
+  pub no-countsNothing : Counter countsNothing → ⊥
+  pub no-neverTerminal : Counter neverTerminal → ⊥
+  pub no-neverTerminal-timer : Counter neverTerminal → ⊥
+  pub no-stopsNothing : Counter (chipOf stopsNothing) → ⊥
+  -- the same, after any events
+  pub no-countsNothing-counted : Counted countsNothing → ⊥
+  pub no-neverTerminal-counted : Counted neverTerminal → ⊥
+  -- after a chip reset, a write of a preload, in modes 1 and 2, and after a stop of a timer
+  pub no-resetRuns : Counted (chipOf resetRuns) → ⊥
+  pub no-preloadCounts : Counted (chipOf preloadCounts) → ⊥
+  pub no-transmittersUncounted : Counted (chipOf transmittersUncounted) → ⊥
+  pub no-stopHalts : Counted (chipOf stopHalts) → ⊥
+
+pub wrong-counter : WrongCounter
+unfolding bitsOf valueOf oddOnes formatOf parityBitOf parityBits pick stopLengthOf rowOf stopBitsOf beforeStop bitsBeforeStopOf spread levels frame frameLengthOf frameBitsOf levelOf dataWidthOf samplesOf withSample parityWrongOf characterOf gapOf afterStop lowAt hunted lookedAgain followed waited finished sampled assembled sampleOf heldOf putOf withoutWaitingOf tookOf oldestMarks inArrivals.startedOf inTimer.startedOf enteredOf arrivedOf inArrivals.pulsedOf inSending.pulsedOf effectOf enablingOf shownMarks oldestRead readOf fedOf inSending.takenOf inDuart.takenOf begunOf bitOfPulse sentOnOf heldHigh writtenOf breakEnded droppedOf breakAsked afterInput dividedOf sixteenthOf periodOf restartedOnChange tickedOf sideOf transmitter1x inClocks.clockedOf inFrontClocks.clockedOf counterPulsed timerPulsed pulsedBy tickedBy edgedBy stoppedOf modeChanged hasBit weightOf byteOf movedOf pinsOfA pinsOfB drivenBy drivenOp3 opLevels freshSide modeRegister modeNotModelled modeWritten csrWritten setChanged bufferWritten transmitterPulsed lineOf sideClocked transmitterEffect receiverEffect transmitterEnabling receiverEnabling sideCommanded commandFeed receivedOf shownOf frontAt countedOf clockedWith levelsMoved sideWritten acrWritten sharedWritten registerWritten sideRead sharedRead registerRead frontData registerAbove15 forbiddenRead forbiddenCommand frontStepped writeNotModelled settingNotModelled assertedOf timerLevel linesOf registerData eventData freshDevice acknowledgedUnasserted firstOf numberOf refusalLines stepOf firstRefusal answerOf requestOf spaceAfter after chipOf over programmedThen clocksOf inChipClocks.pulsedBy handedAfter elapsedThen timerThen timerFrom
+wrong-counter =
+    record {
+      no-countsNothing = λ h. eqb-false 0 1 refl (h .count 255 3 (preloaded 3) [] counter refl);
+      no-neverTerminal = λ h. true≢false (sym (h .terminal 255 3 (preloaded 3) sixteen counter-on refl));
+      no-neverTerminal-timer = λ h. true≢false (sym (h .toggles 255 6 (preloaded 6) (Tick ∷ Tick ∷ []) (Read 14) timer refl));
+      no-stopsNothing = λ h. true≢false (h .clears 255 (preloaded 3 ++ Read 14 ∷ sixteen));
+      no-countsNothing-counted = λ h. eqb-false 0 1 refl (h .low 255 (preloaded 3 ++ Read 14 ∷ []));
+      no-neverTerminal-counted = λ h. true≢false (sym (h .bit 255 (preloaded 0 ++ Read 14 ∷ rises)));
+      no-resetRuns = λ h. eqb-false 255 0 refl (h .high 255 (ChipReset ∷ rises));
+      no-preloadCounts = λ h. eqb-false 5 0 refl (h .low 255 (Write 7 5 ∷ []));
+      no-transmittersUncounted = λ h. eqb-false 5 4 refl (h .low 255 transmits);
+      no-stopHalts = λ h. eqb-false 5 4 refl (h .low 255 halted);
+    }
+  where
+    counter : Started 3 []
+    counter = record { loaded = refl; clock = (eqb-false 3 1 refl, eqb-false 3 2 refl); preload = one-preload; left = refl }
+
+    counter-on : Started 3 sixteen
+    counter-on = record { loaded = refl; clock = (eqb-false 3 1 refl, eqb-false 3 2 refl); preload = one-preload; left = refl }
+
+    timer : Started 6 (Tick ∷ Tick ∷ [])
+    timer = record { loaded = refl; clock = (eqb-false 6 1 refl, eqb-false 6 2 refl); preload = one-preload; left = refl }

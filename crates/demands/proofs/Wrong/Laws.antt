@@ -1,0 +1,186 @@
+-- The laws of registers, interrupts and outputs shut wrong chips out; so do demand 1, the numbers, what is said of refused events, and what is said of
+-- pulses. A law is taken at a few events, where what the wrong one answers and what the law says are computed, and differ. Assumes nothing.
+use Prim.Native.Nat.{ℕ, _<_, _≤_}
+use mathlib.Core.Path.{refl, sym, _∙_, ap}
+use mathlib.Core.Bool.{true, false, not, _&&_, _||_, true≢false}
+use mathlib.Core.List.{List, [], _∷_, _++_}
+use native.Mathlib.Omega.{arith}
+use borrow.Author.Tests.{eqb-false}
+use lib.Dec.{eqb}
+use lib.ListN.{getD, replicate}
+use Rattle.format.specs.Digits.{bitsOf, valueOf, oddOnes}
+use Rattle.format.specs.Format.{formatOf}
+use Rattle.format.specs.Parity.{parityBitOf, parityBits}
+use Rattle.format.specs.Pick.{pick}
+use Rattle.format.specs.Stop.{stopLengthOf, rowOf, stopBitsOf}
+use Rattle.frame.specs.Levels.{beforeStop, bitsBeforeStopOf, spread, levels, frame, frameLengthOf, frameBitsOf, levelOf}
+use Rattle.assembly.specs.Assembly.{dataWidthOf, samplesOf, withSample, parityWrongOf, characterOf}
+use Rattle.assembly.specs.State.{gapOf, afterStop}
+use Rattle.hunting.specs.Hunting.{lowAt, hunted, lookedAgain, followed, waited}
+use Rattle.sampler.specs.Sampler.{finished, sampled, assembled, sampleOf}
+use Rattle.queue.specs.Queue.{heldOf, putOf, withoutWaitingOf, tookOf}
+use Rattle.arrivals.specs.Arrivals.{oldestMarks, enteredOf, arrivedOf}
+use Rattle.receiver_commands.specs.Commands.{effectOf, enablingOf}
+use Rattle.receiver_status.specs.Status.{shownMarks}
+use Rattle.receiver.specs.Receiver.{oldestRead, readOf, fedOf}
+use Rattle.sending.specs.Sending.{begunOf, bitOfPulse, sentOnOf, heldHigh}
+use Rattle.transmitter.specs.Commands.{writtenOf, breakEnded, droppedOf, breakAsked}
+use Rattle.transmitter.specs.Transmitter.{afterInput}
+use Rattle.dividers.specs.Divider.{dividedOf, sixteenthOf}
+use Rattle.dividers.specs.Rates.{periodOf}
+use Rattle.clocks.specs.Channel.{restartedOnChange, tickedOf, sideOf, transmitter1x}
+use Rattle.counting.specs.Counting.{counterPulsed, timerPulsed, pulsedBy}
+use Rattle.timer.specs.Timer.{tickedBy, edgedBy, stoppedOf, modeChanged}
+use Rattle.bytes.specs.Bytes.{hasBit, weightOf, byteOf}
+use Rattle.inputs.specs.Inputs.{movedOf, pinsOfA, pinsOfB}
+use Rattle.outputs.specs.Outputs.{drivenBy, drivenOp3, opLevels}
+use Rattle.side.specs.Side.{freshSide, modeRegister, modeNotModelled, modeWritten, csrWritten, setChanged, bufferWritten}
+use Rattle.side_clocks.specs.Clocking.{transmitterPulsed, lineOf, sideClocked}
+use Rattle.commands.specs.Commands.{transmitterEffect, receiverEffect, transmitterEnabling, receiverEnabling, sideCommanded, commandFeed}
+use Rattle.shown.specs.Shown.{receivedOf, shownOf}
+use Rattle.front.specs.Front.{frontAt}
+use Rattle.front_clocks.specs.Clocking.{countedOf, clockedWith, levelsMoved}
+use Rattle.writes.specs.Writes.{sideWritten, acrWritten, sharedWritten, registerWritten}
+use Rattle.reads.specs.Reads.{sideRead, sharedRead, registerRead, frontData}
+use Rattle.events.specs.Refusals.{registerAbove15, forbiddenRead, forbiddenCommand}
+use Rattle.front_events.specs.FrontEvents.{frontStepped}
+use Rattle.front_events.specs.NotModelled.{writeNotModelled, settingNotModelled}
+use Rattle.answers.specs.Answers.{assertedOf, timerLevel, linesOf, registerData, eventData}
+use Rattle.device.specs.Device.{freshDevice}
+use Rattle.refusals.specs.Refusals.{acknowledgedUnasserted, firstOf}
+use Rattle.duart.specs.Duart.{numberOf, refusalLines, stepOf}
+use Rattle.arrivals.specs.Arrivals as inArrivals
+use Rattle.timer.specs.Timer as inTimer
+use Rattle.sending.specs.Sending as inSending
+use Rattle.duart.specs.Duart as inDuart
+use Rattle.clocks.specs.Channel as inClocks
+use Rattle.front_clocks.specs.Clocking as inFrontClocks
+use Rattle.duart.specs.Duart.{refusedOf}
+use Rattle.clocks.specs.Pulses.Side.{receives}
+use Rattle.request.specs.declared.request.FrameAnswer.{FrameAnswer}
+use Rattle.request.specs.Request.{firstRefusal, answerOf, requestOf, spaceAfter}
+use Rattle.events.specs.declared.events.Event.{Event}
+use Rattle.events.specs.declared.events.Event.the-variants.{ChipReset, Read, Write, Acknowledge, Tick}
+use Rattle.device.specs.declared.device.Device.{Device}
+use Rattle.chip.specs.Alone.{handedAfter}
+use Rattle.chip.specs.Lists.{Seen}
+use Rattle.chip.specs.Sound.{after}
+use Rattle.chip.specs.Table.{Step}
+use Rattle.chip.proofs.Wrong as Wrong
+use Rattle.chip.proofs.Wrong.{isReadOf}
+use Rattle.demands.specs.Chip.{Chip, chipOf, over}
+use Rattle.demands.specs.Chip.Channel.{A}
+use Rattle.demands.specs.Told.{programmedThen}
+use Rattle.demands.specs.Clocks.{clocksOf, pulsedAfter}
+use Rattle.demands.specs.Clocks as inChipClocks
+use Rattle.demands.specs.Registers.{Registers, Interrupts, Outputs}
+use Rattle.demands.specs.Numbers.{numberAfter, Numbers}
+use Rattle.demands.specs.Demand1.{Request, Demand1}
+use Rattle.demands.specs.Pulses.{Pulsing, isTick, codeAfter, Pulses}
+use Rattle.demands.specs.Reached.{accepted, Reached, Unaltered}
+use Rattle.demands.specs.Cases.{heard}
+use Rattle.demands.proofs.Wrong.Chips.{doesNothing, vectorStuck, hidesReady, neverAsserts, acknowledgesAlways, showsBits, ignoresOpcr}
+use Rattle.demands.proofs.Wrong.Chips.{resetKeepsVector, changed, isWriteOf, sameFrame, oneMore, clearsRefused}
+
+-- ---- more that are wrong ----
+
+-- 3: "read of 2 or 10": a read of 2 is accepted
+abbrev readsCommand : Chip
+readsCommand = changed (λ e x. pick (isReadOf 2 e) (record { number = 0; byte = x .byte; lines = x .lines }) x)
+
+-- "A write while disabled is ignored": it is refused
+abbrev refusesDisabled : Step
+refusesDisabled d e = pick (isWriteOf 3 e && not (d .front .a .transmitter .enabled)) (refusedOf d 4) (stepOf d e)
+
+-- "(a start or a change of ACR gives no pulse)": a start gives one
+abbrev pulsesAtStart : Pulsing
+pulsesAtStart side ch levels es e = pulsedAfter side ch levels es e || (isReadOf 14 e && eqb (codeAfter side ch es) 13)
+
+-- ---- the events ----
+
+abbrev vector : List Event
+vector = Write 12 64 ∷ []
+
+-- transmitter A is enabled, with IMR bit 0
+abbrev asking : List Event
+asking = Write 5 1 ∷ Write 2 4 ∷ []
+
+-- a character on receiver A, at 1X
+abbrev arrived : List Event
+arrived = Write 0 16 ∷ Write 1 255 ∷ Write 2 1 ∷ heard (true ∷ frame false (formatOf 16) 7 1)
+
+-- ---- shut out ----
+
+code-fixed : 11 < 13
+code-fixed = omega arith
+
+lent-enough : 160 ≤ 192
+lent-enough = omega arith
+
+pub record WrongLaws : Type 0 where
+  -- the last byte written to IVR, else 15
+  pub no-vectorStuck : Registers vectorStuck → ⊥
+  pub no-doesNothing : Registers doesNothing → ⊥
+  pub no-resetKeepsVector : Registers (chipOf resetKeepsVector) → ⊥
+  -- "A status read that takes a character."
+  pub no-statusTakes : Registers (chipOf Wrong.statusTakes) → ⊥
+  -- IRQ, the acknowledge, and ISR bit 0
+  pub no-neverAsserts : Interrupts neverAsserts → ⊥
+  pub no-acknowledgesAlways : Interrupts acknowledgesAlways → ⊥
+  pub no-hidesReady : Interrupts hidesReady → ⊥
+  -- OP0, and OP6
+  pub no-showsBits : Outputs showsBits → ⊥
+  pub no-ignoresOpcr : Outputs (chipOf ignoresOpcr) → ⊥
+  -- a number that is not given where it should be, and one that is given where it should not be
+  pub no-readsCommand : Numbers readsCommand → ⊥
+  pub no-refusesDisabled : Numbers (chipOf refusesDisabled) → ⊥
+  pub no-acknowledgesAlways-number : Numbers acknowledgesAlways → ⊥
+  -- "the chip's state unaltered", "with data 0"
+  pub no-refusedActs : Unaltered (chipOf Wrong.refusedActs) → ⊥
+  pub no-leavesByte : Unaltered (chipOf Wrong.leavesByte) → ⊥
+  -- the reset, the pins' levels after it, and a refused event
+  pub no-refusesReset : Reached Wrong.refusesReset → ⊥
+  pub no-lowersPins : Reached Wrong.lowersPins → ⊥
+  pub no-refusedActs-reached : Reached Wrong.refusedActs → ⊥
+  -- demand 1: the table, and the frame request, whatever answers the events
+  pub no-refusesAll : (r : Request) → Demand1 Wrong.refusesAll r → ⊥
+  pub no-sameFrame : (step : Step) (a : FrameAnswer) (space : List ℕ) → Demand1 step (sameFrame a space) → ⊥
+  pub no-oneMore : (step : Step) → Demand1 step oneMore → ⊥
+  pub no-clearsRefused : (step : Step) → Demand1 step clearsRefused → ⊥
+  -- no pulse at all, one at every tick, and one at a start
+  pub no-neverPulses : Pulses (λ side ch levels es e. false) → ⊥
+  pub no-everyTick : Pulses (λ side ch levels es e. isTick e) → ⊥
+  pub no-pulsesAtStart : Pulses pulsesAtStart → ⊥
+
+pub wrong-laws : WrongLaws
+unfolding bitsOf valueOf oddOnes formatOf parityBitOf parityBits pick stopLengthOf rowOf stopBitsOf beforeStop bitsBeforeStopOf spread levels frame frameLengthOf frameBitsOf levelOf dataWidthOf samplesOf withSample parityWrongOf characterOf gapOf afterStop lowAt hunted lookedAgain followed waited finished sampled assembled sampleOf heldOf putOf withoutWaitingOf tookOf oldestMarks inArrivals.startedOf inTimer.startedOf enteredOf arrivedOf inArrivals.pulsedOf inSending.pulsedOf effectOf enablingOf shownMarks oldestRead readOf fedOf inSending.takenOf inDuart.takenOf begunOf bitOfPulse sentOnOf heldHigh writtenOf breakEnded droppedOf breakAsked afterInput dividedOf sixteenthOf periodOf restartedOnChange tickedOf sideOf transmitter1x inClocks.clockedOf inFrontClocks.clockedOf counterPulsed timerPulsed pulsedBy tickedBy edgedBy stoppedOf modeChanged hasBit weightOf byteOf movedOf pinsOfA pinsOfB drivenBy drivenOp3 opLevels freshSide modeRegister modeNotModelled modeWritten csrWritten setChanged bufferWritten transmitterPulsed lineOf sideClocked transmitterEffect receiverEffect transmitterEnabling receiverEnabling sideCommanded commandFeed receivedOf shownOf frontAt countedOf clockedWith levelsMoved sideWritten acrWritten sharedWritten registerWritten sideRead sharedRead registerRead frontData registerAbove15 forbiddenRead forbiddenCommand frontStepped writeNotModelled settingNotModelled assertedOf timerLevel linesOf registerData eventData freshDevice acknowledgedUnasserted firstOf numberOf refusalLines stepOf firstRefusal answerOf requestOf spaceAfter after chipOf over programmedThen clocksOf inChipClocks.pulsedBy handedAfter accepted numberAfter heard
+wrong-laws =
+    record {
+      no-vectorStuck = λ h. eqb-false 15 64 refl (h .vector 255 vector);
+      no-doesNothing = λ h. eqb-false 15 64 refl (h .vector 255 vector);
+      no-resetKeepsVector = λ h. eqb-false 64 15 refl (h .vector 255 (vector ++ ChipReset ∷ []));
+      no-statusTakes = λ h. eqb-false 0 1 refl (ap (λ (x : Seen). x .byte) (h .looks 255 1 arrived [] (Read 1) refl));
+      no-neverAsserts = λ h. true≢false (sym (h .asserted 255 asking));
+      no-acknowledgesAlways = λ h. eqb-false 0 6 refl (h .acknowledge 255 []);
+      no-hidesReady = λ h. true≢false (sym (h .ready 255 A asking));
+      no-showsBits = λ h. true≢false (sym (h .plain 255 0 [] (omega arith)));
+      no-ignoresOpcr = λ h. true≢false (h .chosen 255 6 (Write 13 64 ∷ asking) (omega arith) (omega arith));
+      no-readsCommand = λ h. eqb-false 0 3 refl (h 255 [] (Read 2));
+      no-refusesDisabled = λ h. eqb-false 4 0 refl (h 255 [] (Write 3 85));
+      no-acknowledgesAlways-number = λ h. eqb-false 0 6 refl (h 255 [] Acknowledge);
+      no-refusedActs = λ h.
+          eqb-false 19 0 refl (ap (λ (x : Seen). x .byte) (h .refused 255 [] (Write 0 19 ∷ []) (Write 0 128) (Read 0) (eqb-false 5 0 refl)));
+      no-leavesByte = λ h. eqb-false 15 0 refl (h .silent 255 [] Acknowledge (eqb-false 6 0 refl));
+      no-refusesReset = λ h. eqb-false 1 0 refl (h .reset freshDevice refl);
+      no-lowersPins = λ h. eqb-false 192 255 refl (ap (λ (x : Seen). x .byte) (h .chip freshDevice [] (Read 13) refl));
+      no-refusedActs-reached = λ h. true≢false (sym (ap (λ (d : Device). d .front .a .moved) (h .states freshDevice (Write 0 128 ∷ []))));
+      no-refusesAll = λ r h. Wrong.no-refusesAll (h .table);
+      no-sameFrame = λ step a space h.
+          eqb-false 5 0 refl
+          (sym (h .setting 128 7 0 [] refl) ∙ ap (λ (x : FrameAnswer). x .number) (h .given 19 7 0 (replicate 192 0) refl lent-enough));
+      no-oneMore = λ step h. eqb-false 161 160 refl (ap (λ (x : FrameAnswer). x .length .0) (h .given 19 7 0 (replicate 192 0) refl lent-enough));
+      no-clearsRefused = λ step h. eqb-false 0 1 refl (ap (λ (l : List ℕ). getD l 0 2) (h .untouched 128 7 0 (1 ∷ []) (eqb-false 5 0 refl)));
+      no-neverPulses = λ h. true≢false (sym (h .fixed receives A 255 (Write 1 187 ∷ replicate 23 Tick) Tick code-fixed));
+      no-everyTick = λ h. true≢false (h .fixed receives A 255 (Write 1 187 ∷ []) Tick code-fixed);
+      no-pulsesAtStart = λ h. true≢false (h .only receives A 255 (Write 1 221 ∷ Write 4 96 ∷ []) (Read 14) refl);
+    }

@@ -1,0 +1,218 @@
+-- What is said of a transmitter shuts wrong chips out: TxD, TxRDY and TxEMT after any events, and a character's levels from its start on. A law is taken
+-- at a few events, where what the wrong one answers and what the law says are computed, and differ. Assumes nothing.
+use Prim.Native.Nat.{ℕ, _+_, _*_, _/_, _%_, _<_}
+use mathlib.Core.Path.{refl, sym, ap}
+use mathlib.Core.Bool.{not, _&&_, true≢false}
+use mathlib.Core.List.{List, [], _∷_, _++_}
+use native.Mathlib.Omega.{arith}
+use lib.Dec.{eqb}
+use Rattle.format.specs.Digits.{bitsOf, valueOf, oddOnes}
+use Rattle.format.specs.Format.{formatOf}
+use Rattle.format.specs.Parity.{parityBitOf, parityBits}
+use Rattle.format.specs.Pick.{pick}
+use Rattle.format.specs.Stop.{stopLengthOf, rowOf, stopBitsOf}
+use Rattle.frame.specs.Levels.{beforeStop, bitsBeforeStopOf, spread, levels, frame, frameLengthOf, frameBitsOf, levelOf}
+use Rattle.assembly.specs.Assembly.{dataWidthOf, samplesOf, withSample, parityWrongOf, characterOf}
+use Rattle.assembly.specs.State.{gapOf, afterStop}
+use Rattle.hunting.specs.Hunting.{lowAt, hunted, lookedAgain, followed, waited}
+use Rattle.sampler.specs.Sampler.{finished, sampled, assembled, sampleOf}
+use Rattle.queue.specs.Queue.{heldOf, putOf, withoutWaitingOf, tookOf}
+use Rattle.arrivals.specs.Arrivals.{oldestMarks, enteredOf, arrivedOf}
+use Rattle.receiver_commands.specs.Commands.{effectOf, enablingOf}
+use Rattle.receiver_status.specs.Status.{shownMarks}
+use Rattle.receiver.specs.Receiver.{oldestRead, readOf, fedOf}
+use Rattle.sending.specs.Sending.{begunOf, bitOfPulse, sentOnOf, heldHigh}
+use Rattle.transmitter.specs.Commands.{writtenOf, breakEnded, droppedOf, breakAsked}
+use Rattle.transmitter.specs.Transmitter.{afterInput}
+use Rattle.transmitter.specs.Frames as Frames
+use Rattle.dividers.specs.Divider.{dividedOf, sixteenthOf}
+use Rattle.dividers.specs.Rates.{periodOf}
+use Rattle.clocks.specs.Channel.{restartedOnChange, tickedOf, sideOf, transmitter1x}
+use Rattle.counting.specs.Counting.{counterPulsed, timerPulsed, pulsedBy}
+use Rattle.timer.specs.Timer.{tickedBy, edgedBy, stoppedOf, modeChanged}
+use Rattle.bytes.specs.Bytes.{hasBit, weightOf, byteOf}
+use Rattle.inputs.specs.Inputs.{movedOf, pinsOfA, pinsOfB}
+use Rattle.outputs.specs.Outputs.{drivenBy, drivenOp3, opLevels}
+use Rattle.side.specs.Side.{freshSide, modeRegister, modeNotModelled, modeWritten, csrWritten, setChanged, bufferWritten}
+use Rattle.side_clocks.specs.Clocking.{transmitterPulsed, lineOf, sideClocked}
+use Rattle.commands.specs.Commands.{transmitterEffect, receiverEffect, transmitterEnabling, receiverEnabling, sideCommanded, commandFeed}
+use Rattle.shown.specs.Shown.{receivedOf, shownOf}
+use Rattle.front.specs.Front.{frontAt}
+use Rattle.front_clocks.specs.Clocking.{countedOf, clockedWith, levelsMoved}
+use Rattle.writes.specs.Writes.{sideWritten, acrWritten, sharedWritten, registerWritten}
+use Rattle.reads.specs.Reads.{sideRead, sharedRead, registerRead, frontData}
+use Rattle.events.specs.Refusals.{registerAbove15, forbiddenRead, forbiddenCommand}
+use Rattle.front_events.specs.FrontEvents.{frontStepped}
+use Rattle.front_events.specs.NotModelled.{writeNotModelled, settingNotModelled}
+use Rattle.answers.specs.Answers.{assertedOf, timerLevel, linesOf, registerData, eventData}
+use Rattle.device.specs.Device.{freshDevice}
+use Rattle.refusals.specs.Refusals.{acknowledgedUnasserted, firstOf}
+use Rattle.duart.specs.Duart.{numberOf, refusalLines, stepOf}
+use Rattle.arrivals.specs.Arrivals as inArrivals
+use Rattle.timer.specs.Timer as inTimer
+use Rattle.sending.specs.Sending as inSending
+use Rattle.duart.specs.Duart as inDuart
+use Rattle.clocks.specs.Channel as inClocks
+use Rattle.front_clocks.specs.Clocking as inFrontClocks
+use Rattle.sending.specs.declared.state.Transmitter.{Transmitter}
+use Rattle.request.specs.Request.{firstRefusal, answerOf, requestOf, spaceAfter}
+use Rattle.events.specs.declared.events.Event.{Event}
+use Rattle.events.specs.declared.events.Event.the-variants.{Read, Write, Pins}
+use Rattle.device.specs.declared.device.Device.{Device}
+use Rattle.duart.specs.declared.duart.Answer.{Answer}
+use Rattle.chip.specs.Alone.{handedAfter}
+use Rattle.chip.specs.Lists.{Seen}
+use Rattle.chip.specs.Sound.{after}
+use Rattle.chip.specs.Table.{Step}
+use Rattle.chip.proofs.Wrong as Wrong
+use Rattle.demands.specs.Chip.{chipOf, over}
+use Rattle.demands.specs.Chip.Channel.{A, B}
+use Rattle.demands.specs.Told.{programmedThen}
+use Rattle.demands.specs.Clocks.{clocksOf}
+use Rattle.demands.specs.Clocks as inChipClocks
+use Rattle.demands.specs.Sending.{inputsAt, inputsFrom, Transmits, Starts, pulsesFrom, Sends}
+use Rattle.demands.proofs.Wrong.Chips.{isWrite, isWriteOf, neverSends, idlesAt, leadsTo, shownBy, keepsFirst, ignoresCts}
+
+-- ---- more that are wrong ----
+
+abbrev transmitterA : Device → Transmitter
+transmitterA d = d .front .a .transmitter
+
+abbrev transmitterB : Device → Transmitter
+transmitterB d = d .front .b .transmitter
+
+-- "TxD high": TxDA is low while nothing is sent
+abbrev lowAtRest : Step
+lowAtRest d e =
+    let x : Answer = stepOf d e in
+    Wrong.withLines x
+    (record {
+      irq = x .lines .irq;
+      txda = x .lines .txda && not (eqb (transmitterA (x .state) .phase) 0);
+      txdb = x .lines .txdb;
+      op = x .lines .op;
+    })
+
+-- "6, 7 start, stop break": A's start does nothing
+abbrev ignoresBreak : Step
+ignoresBreak = idlesAt (λ d e. isWrite (λ n byte. eqb n 2 && eqb (byte / 16 % 8) 6) e)
+
+-- "TxRDY: enabled and holding place empty.": A's comes back a pulse after a character's start; SR bit 2 and ISR bit 0
+abbrev readyLate : Step
+readyLate =
+    shownBy
+    (λ d n byte. pick (eqb (transmitterA d .phase) 1 && eqb (transmitterA d .shifter .sent .0) 1)
+    (pick (eqb n 1) (byte / 8 * 8 + byte % 4) (pick (eqb n 5) (byte / 2 * 2) byte))
+    byte)
+
+-- B's never comes back after a character's start; SR bits 3, 2 and ISR bit 4
+abbrev neverReadyAgain : Step
+neverReadyAgain =
+    shownBy
+    (λ d n byte. pick (eqb (transmitterB d .shifter .length .0) 0) byte
+    (pick (eqb n 9) (byte / 16 * 16 + byte % 4) (pick (eqb n 5) (byte / 32 * 32 + byte % 16) byte)))
+
+-- "TxEMT: enabled, holding place and shifter empty.": it is as TxRDY
+abbrev emptyAsReady : Step
+emptyAsReady = shownBy (λ d n byte. pick (eqb n 1) (byte / 16 * 16 + byte / 4 % 2 * 8 + byte % 8) byte)
+
+-- "A write while disabled is ignored": it is taken as if enabled for it
+abbrev takesDisabled : Step
+takesDisabled =
+    leadsTo
+    (λ d e x. pick (isWriteOf 3 e && not (transmitterA d .enabled))
+    (stepOf (stepOf (stepOf d (Write 2 4) .state) e .state) (Write 2 8) .state)
+    x)
+
+-- ---- the events ----
+
+-- transmitter A at 1X, and 85 to send
+abbrev enabled : ℕ → List Event
+enabled mr2 = Write 0 19 ∷ Write 0 mr2 ∷ Write 1 255 ∷ Write 2 4 ∷ []
+
+abbrev sends : ℕ → List Event
+sends mr2 = enabled mr2 ++ Write 3 85 ∷ []
+
+-- IP3 falls: with IP0 high, and low
+abbrev falls : Event
+falls = Pins 247
+
+abbrev fallsClear : Event
+fallsClear = Pins 246
+
+-- the start bit, and the lowest bit
+abbrev started : List Event
+started = sends 7 ++ falls ∷ []
+
+abbrev lowest : List Event
+lowest = falls ∷ Pins 255 ∷ falls ∷ []
+
+-- transmitter B's start bit, by falling IP5
+abbrev startedB : List Event
+startedB = Write 9 255 ∷ Write 10 4 ∷ Write 11 85 ∷ Pins 223 ∷ []
+
+-- a break begins
+abbrev breaks : List Event
+breaks = enabled 7 ++ Write 2 96 ∷ falls ∷ []
+
+-- 84 replaces it
+abbrev replaced : List Event
+replaced = sends 7 ++ Write 3 84 ∷ []
+
+-- CTS is high at a pulse, and low after it
+abbrev cleared : List Event
+cleared = sends 23 ++ falls ∷ Pins 254 ∷ []
+
+-- ---- shut out ----
+
+zero-ten : 0 < 10
+zero-ten = omega arith
+
+one-ten : 1 < 10
+one-ten = omega arith
+
+pub record WrongSending : Type 0 where
+  -- TxD at rest, and in a break
+  pub no-lowAtRest : Transmits (chipOf lowAtRest) → ⊥
+  pub no-ignoresBreak : Transmits (chipOf ignoresBreak) → ⊥
+  -- TxRDY and TxEMT
+  pub no-readyLate : Transmits (chipOf readyLate) → ⊥
+  pub no-neverReadyAgain : Transmits (chipOf neverReadyAgain) → ⊥
+  pub no-emptyAsReady : Transmits (chipOf emptyAsReady) → ⊥
+  -- a write while disabled, and a second one
+  pub no-takesDisabled : Transmits (chipOf takesDisabled) → ⊥
+  pub no-keepsFirst-replaced : Transmits (chipOf keepsFirst) → ⊥
+  -- a character's start: TxRDY, and TxEMT
+  pub no-readyLate-leaves : Sends (chipOf readyLate) → ⊥
+  pub no-emptyAsReady-busy : Sends (chipOf emptyAsReady) → ⊥
+  -- the start bit; the lowest bit of the second write; the start bit once CTS is low
+  pub no-neverSends : Sends neverSends → ⊥
+  pub no-keepsFirst : Sends (chipOf keepsFirst) → ⊥
+  pub no-ignoresCts : Sends (chipOf ignoresCts) → ⊥
+
+pub wrong-sending : WrongSending
+unfolding bitsOf valueOf oddOnes formatOf parityBitOf parityBits pick stopLengthOf rowOf stopBitsOf beforeStop bitsBeforeStopOf spread levels frame frameLengthOf frameBitsOf levelOf dataWidthOf samplesOf withSample parityWrongOf characterOf gapOf afterStop lowAt hunted lookedAgain followed waited finished sampled assembled sampleOf heldOf putOf withoutWaitingOf tookOf oldestMarks inArrivals.startedOf inTimer.startedOf enteredOf arrivedOf inArrivals.pulsedOf inSending.pulsedOf effectOf enablingOf shownMarks oldestRead readOf fedOf inSending.takenOf inDuart.takenOf begunOf bitOfPulse sentOnOf heldHigh writtenOf breakEnded droppedOf breakAsked afterInput dividedOf sixteenthOf periodOf restartedOnChange tickedOf sideOf transmitter1x inClocks.clockedOf inFrontClocks.clockedOf counterPulsed timerPulsed pulsedBy tickedBy edgedBy stoppedOf modeChanged hasBit weightOf byteOf movedOf pinsOfA pinsOfB drivenBy drivenOp3 opLevels freshSide modeRegister modeNotModelled modeWritten csrWritten setChanged bufferWritten transmitterPulsed lineOf sideClocked transmitterEffect receiverEffect transmitterEnabling receiverEnabling sideCommanded commandFeed receivedOf shownOf frontAt countedOf clockedWith levelsMoved sideWritten acrWritten sharedWritten registerWritten sideRead sharedRead registerRead frontData registerAbove15 forbiddenRead forbiddenCommand frontStepped writeNotModelled settingNotModelled assertedOf timerLevel linesOf registerData eventData freshDevice acknowledgedUnasserted firstOf numberOf refusalLines stepOf firstRefusal answerOf requestOf spaceAfter after chipOf over programmedThen clocksOf inChipClocks.pulsedBy handedAfter inputsAt inputsFrom Frames.after pulsesFrom
+wrong-sending =
+    record {
+      no-lowAtRest = λ h. true≢false (sym (h .line 255 A []));
+      no-ignoresBreak = λ h. true≢false (h .line 255 A breaks);
+      no-readyLate = λ h. true≢false (sym (h .ready 255 A started));
+      no-neverReadyAgain = λ h. true≢false (sym (h .ready 255 B startedB));
+      no-emptyAsReady = λ h. true≢false (h .empty 255 A started);
+      no-takesDisabled = λ h. true≢false (sym (ap (λ (x : Seen). x .lines .txda) (h .ignored 255 85 A [] (enabled 7 ++ falls ∷ []) (Read 1) refl)));
+      no-keepsFirst-replaced = λ h. true≢false (ap (λ (x : Seen). x .lines .txda) (h .replaced 255 85 84 A (enabled 7) lowest (Read 1)));
+      no-readyLate-leaves = λ h. true≢false (sym (h .leaves 255 A (sends 7) falls starts));
+      no-emptyAsReady-busy = λ h. true≢false (h .busy 255 A (sends 7) [] falls starts refl zero-ten);
+      no-neverSends = λ h. true≢false (h .level 255 A (sends 7) [] falls starts refl zero-ten);
+      no-keepsFirst = λ h. true≢false (h .level 255 A replaced (Pins 255 ∷ falls ∷ []) falls starts-replaced refl one-ten);
+      no-ignoresCts = λ h. true≢false (h .level 255 A cleared [] fallsClear starts-cleared refl zero-ten);
+    }
+  where
+    starts : Starts 255 A (sends 7) falls
+    starts = record { pulse = refl; startable = record { idle = refl; enabled = refl; full = refl; clear = refl } }
+
+    starts-replaced : Starts 255 A replaced falls
+    starts-replaced = record { pulse = refl; startable = record { idle = refl; enabled = refl; full = refl; clear = refl } }
+
+    starts-cleared : Starts 255 A cleared fallsClear
+    starts-cleared = record { pulse = refl; startable = record { idle = refl; enabled = refl; full = refl; clear = refl } }
