@@ -67,41 +67,26 @@ levels-next f e = rw (front-next f e) (go e)
     go (Pins x) = refl
     go Tick = refl
 
-pub ivr-next : (f : Front) (e : Event) → frontThen f e .ivr ≡ lastWritten 12 15 (f .ivr) e
-unfolding frontAt
-ivr-next f e = rw (front-next f e) (go e)
-  where
-    go : (e : Event) → frontNext f e .ivr ≡ lastWritten 12 15 (f .ivr) e
-    go ChipReset = refl
-    go (Read n) = refl
-    go (Write n byte) = refl
-    go Acknowledge = refl
-    go (Pins x) = refl
-    go Tick = refl
+-- IVR, IMR and ACR are as they were last written
+record Last (f g : Front) (e : Event) : Type 0 where
+  ivr : g .ivr ≡ lastWritten 12 15 (f .ivr) e
+  imr : g .imr ≡ lastWritten 5 0 (f .imr) e
+  acr : g .acr ≡ lastWritten 4 0 (f .acr) e
 
-pub imr-next : (f : Front) (e : Event) → frontThen f e .imr ≡ lastWritten 5 0 (f .imr) e
+last-next : (f : Front) (e : Event) → Last f (frontThen f e) e
 unfolding frontAt
-imr-next f e = rw (front-next f e) (go e)
+last-next f e = rw (front-next f e) (go e)
   where
-    go : (e : Event) → frontNext f e .imr ≡ lastWritten 5 0 (f .imr) e
-    go ChipReset = refl
-    go (Read n) = refl
-    go (Write n byte) = refl
-    go Acknowledge = refl
-    go (Pins x) = refl
-    go Tick = refl
+    go : (e : Event) → Last f (frontNext f e) e
+    go ChipReset = record { ivr = refl; imr = refl; acr = refl }
+    go (Read n) = record { ivr = refl; imr = refl; acr = refl }
+    go (Write n byte) = record { ivr = refl; imr = refl; acr = refl }
+    go Acknowledge = record { ivr = refl; imr = refl; acr = refl }
+    go (Pins x) = record { ivr = refl; imr = refl; acr = refl }
+    go Tick = record { ivr = refl; imr = refl; acr = refl }
 
 pub acr-next : (f : Front) (e : Event) → frontThen f e .acr ≡ lastWritten 4 0 (f .acr) e
-unfolding frontAt
-acr-next f e = rw (front-next f e) (go e)
-  where
-    go : (e : Event) → frontNext f e .acr ≡ lastWritten 4 0 (f .acr) e
-    go ChipReset = refl
-    go (Read n) = refl
-    go (Write n byte) = refl
-    go Acknowledge = refl
-    go (Pins x) = refl
-    go Tick = refl
+acr-next f e = last-next f e .acr
 
 pub levels-told : (levels : ℕ) (es : List Event) → levelsAfter levels es ≡ frontAfter levels es .inputs .levels
 unfolding frontAt
@@ -109,11 +94,11 @@ levels-told levels es = follows (λ f. f .inputs .levels) levelsThen levels-next
 
 pub ivr-told : (levels : ℕ) (es : List Event) → over (lastWritten 12 15) 15 es ≡ frontAfter levels es .ivr
 unfolding frontAt
-ivr-told levels es = follows (λ f. f .ivr) (lastWritten 12 15) ivr-next (frontAt levels) es
+ivr-told levels es = follows (λ f. f .ivr) (lastWritten 12 15) (λ f e. last-next f e .ivr) (frontAt levels) es
 
 pub imr-told : (levels : ℕ) (es : List Event) → over (lastWritten 5 0) 0 es ≡ frontAfter levels es .imr
 unfolding frontAt
-imr-told levels es = follows (λ f. f .imr) (lastWritten 5 0) imr-next (frontAt levels) es
+imr-told levels es = follows (λ f. f .imr) (lastWritten 5 0) (λ f e. last-next f e .imr) (frontAt levels) es
 
 pub acr-told : (levels : ℕ) (es : List Event) → over (lastWritten 4 0) 0 es ≡ frontAfter levels es .acr
 unfolding frontAt
