@@ -28,10 +28,10 @@ seen txda x = bit (x .lines .txda)
 seen txdb x = bit (x .lines .txdb)
 seen op x = x .lines .op
 
--- of a frame request: its number, the pulses it answers, how many of the levels it wrote are high, the level in the middle of bit i, and the number
--- that w bits after the start bit make, the lowest first
+-- of a frame request: the pulses it answers, how many of the levels it wrote are high, the level in the middle of bit i, and the number that w bits
+-- after the start bit make, the lowest first
 pub data Asked : Type 0 where
-  number pulses highs : Asked
+  pulses highs : Asked
   middle value : ℕ → Asked
 
 abbrev pub sum : List ℕ → ℕ
@@ -51,7 +51,6 @@ abbrev pub lent : List ℕ
 lent = replicate 192 0
 
 abbrev pub asked : Asked → Request → ℕ → ℕ → ℕ → ℕ
-asked number r mr1 mr2 x = r mr1 mr2 x lent .0 .number
 asked pulses r mr1 mr2 x = r mr1 mr2 x lent .0 .length .0
 asked highs r mr1 mr2 x = sum (r mr1 mr2 x lent .1)
 asked (middle i) r mr1 mr2 x = middleOf (r mr1 mr2 x lent .1) i
@@ -62,7 +61,7 @@ asked (value w) r mr1 mr2 x = valueFrom w 1 (r mr1 mr2 x lent .1)
 pub data Row : Type 0 where
   -- the fresh device ("the state after a chip reset with all pins high"), these events, then this one, which is accepted
   shows : List Event → Event → Look → ℕ → Row
-  -- MR1, MR2 and a byte
+  -- MR1, MR2 and a byte, a request that is accepted
   asks : ℕ → ℕ → ℕ → Asked → ℕ → Row
 
 -- accepted, and as it must be
@@ -71,7 +70,7 @@ right look x s = eqb (s .number) 0 && eqb (seen look s) x
 
 unfoldable pub holds : Chip → Request → Row → Bool
 holds c r (shows es e look x) = right look x (c 255 es e)
-holds c r (asks mr1 mr2 character look x) = eqb (asked look r mr1 mr2 character) x
+holds c r (asks mr1 mr2 character look x) = eqb (r mr1 mr2 character lent .0 .number) 0 && eqb (asked look r mr1 mr2 character) x
 
 unfoldable pub allHold : Chip → Request → List Row → Bool
 allHold c r [] = true
@@ -136,8 +135,7 @@ case3 = asks 19 0 0 highs 9 ∷ asks 16 0 0 highs 17 ∷ asks 19 7 0 highs 16 �
 -- "85, MR1 19, MR2 7: 0101010101, 160 pulses, 3,840 ticks at code 11.": asked for
 abbrev pub case4 : List Row
 case4 =
-    asks 19 7 85 number 0
-    ∷ asks 19 7 85 (middle 0) 0
+    asks 19 7 85 (middle 0) 0
     ∷ asks 19 7 85 (middle 1) 1
     ∷ asks 19 7 85 (middle 2) 0
     ∷ asks 19 7 85 (middle 3) 1
@@ -150,7 +148,7 @@ case4 =
     ∷ asks 19 7 85 pulses 160
     ∷ []
 
--- and sent: a bit lasts 384 ticks, and the next character starts 3,840 ticks after the first. (All its levels: Sending.)
+-- and sent: the first four bits, 384 ticks apart; the next character starts 3,840 ticks after the first. (All its levels: Sending.)
 abbrev pub case4sent : List Row
 case4sent = sent 192 0 ∷ sent 576 1 ∷ sent 960 0 ∷ sent 1344 1 ∷ sent 3839 1 ∷ sent 3840 0 ∷ []
 

@@ -1,8 +1,8 @@
 -- Demand 3: "Take any list of accepted events after a chip reset, and on each channel the characters that the line, the clock pulses, the format
 -- and the enable alone put together. Those the program read while the ready bit was set, then those still held, are exactly these characters in
 -- order, each once, less those overrun removed by document 01's rule and those a receiver or chip reset dropped. At most four are ever held."
--- The list may hold refused events too: they do nothing (Reached). The ledger is written from the events and from a sampler run alone, and what
--- was read and what is held from the answers. Assumes nothing.
+-- The list may hold refused events too: they do nothing (Reached). The ledger is written from the events, the clock pulses (Pulses) and a sampler run
+-- alone (crate sampling), and what was read and what is held from the answers. Assumes nothing.
 use Prim.Native.Nat.{ℕ, zero, suc, _/_, _%_}
 use mathlib.Core.Path.{_≡_}
 use mathlib.Core.Bool.{Bool, false, not, _&&_}

@@ -28,7 +28,8 @@ abbrev pub requestFrame : Request
 requestFrame mr1 mr2 x space = (requestOf mr1 mr2 (length space), spaceAfter mr1 mr2 x space)
 
 pub record Demand1 (step : Step) (request : Request) : Type 0 where
-  -- each number "Given exactly when" its row applies first, the accepted one too; refused, the data byte is 0 and the state and the lines stay
+  -- each number "Given exactly when" its row applies first, the accepted one too; refused, the data byte is 0, the state stays, and so do the lines
+  -- ("for 1, all lines 0")
   pub table : Table step
   -- no number but the table's: 8 is the frame request's
   pub answered : (d : Device) (e : Event) → step d e .number ≤ 7
