@@ -60,7 +60,7 @@ timer-from levels before [] = refl
 timer-from levels before (e ∷ es) =
     rw (timer-then levels before e, timer-from levels (andThen before e) es, over-then frontThen (frontAt levels) before e)
 
-timer-told : (levels : ℕ) (es : List Event) → timerAfter levels es ≡ frontAfter levels es .timer
+pub timer-told : (levels : ℕ) (es : List Event) → timerAfter levels es ≡ frontAfter levels es .timer
 unfolding over frontAt
 timer-told levels es = timer-from levels [] es
 

@@ -1,5 +1,5 @@
 -- The counter/timer as it is shown: what loads it and the pulses since bring it where crate timer's theorems say; a counter that does not run stays,
--- and a stop leaves a timer as it is but for its bit. Assumes nothing.
+-- and a stop leaves a timer as it is but for its bit; a start and a write of ACR leave its bit. Assumes nothing.
 use Prim.Native.Nat.{ℕ, _+_, _%_, _*_, _-_, _<_, _/_}
 use mathlib.Core.Path.{_≡_, refl, sym, _∙_, ap}
 use mathlib.Core.Bool.{Bool, true, false, not, _||_, and-eq-true-iff}
@@ -11,7 +11,7 @@ use Rattle.format.specs.Pick.{pick}
 use Rattle.format.proofs.Laws.Pick.{pick-all}
 use Rattle.counting.specs.declared.counting.Timer.{Timer}
 use Rattle.counting.specs.Counting.{modeOf, isTimer}
-use Rattle.timer.specs.Timer.{stoppedOf}
+use Rattle.timer.specs.Timer.{startedOf, stoppedOf, modeChanged}
 use Rattle.timer.specs.Counts.{pulsesOf}
 use Rattle.bytes.specs.Bytes.{hasBit}
 use Rattle.outputs.specs.Outputs.{drivenOp3}
@@ -28,7 +28,7 @@ use Rattle.demands.specs.Registers.{opcrThen, acrAfter}
 use Rattle.demands.specs.Counter.{preloadAfter, leavesCounter, allOf, loads, since, Loaded, countShown, Counter}
 use Rattle.demands.proofs.Laws.Bits.{bit-3}
 use Rattle.demands.proofs.Laws.Run.{runAt, run-front, run-sound, front-byte}
-use Rattle.demands.proofs.Laws.Fronts.{front-read}
+use Rattle.demands.proofs.Laws.Fronts.{frontWritten, front-read, front-written}
 use Rattle.demands.proofs.Laws.Told.{over-append, over-then, acr-told}
 use Rattle.demands.proofs.Laws.Ports.{opcr-told}
 use Rattle.demands.proofs.Laws.Looks.{chip, interrupts-shown}
@@ -178,6 +178,50 @@ runs-law levels es fs m l = (count, output)
         output-shown levels (es ++ Read 15 ∷ fs) (opcr o) (ap isTimer-of same ∙ timer)
         ∙ ap (λ (f : Front). f .timer .output) same ∙ sym (output-shown levels (es ++ fs) o timer)
 
+-- ---- what leaves its bit, and its count ----
+
+started-ready : (t : Timer) (mode : ℕ) → startedOf t mode .ready ≡ t .ready
+unfolding startedOf
+started-ready t mode = pick-all (λ (u : Timer). u .ready ≡ t .ready) (isTimer mode) _ _ refl refl
+
+changed-ready : (t : Timer) (before now : ℕ) → modeChanged t before now .ready ≡ t .ready
+unfolding modeChanged
+changed-ready t before now = pick-all (λ (u : Timer). u .ready ≡ t .ready) _ _ _ refl refl
+
+starts-law : (levels : ℕ) (es : List Event) → hasBit (shows chip levels (andThen es (Read 14)) 5) 3 ≡ hasBit (shows chip levels es 5) 3
+unfolding pick
+starts-law levels es =
+    ready-shown levels (andThen es (Read 14))
+    ∙ rw (ready-shown levels es, over-then frontThen (frontAt levels) es (Read 14), front-read (frontAfter levels es) 14)
+    (started-ready (frontAfter levels es .timer) _)
+
+-- a write
+written-timer : (levels n byte : ℕ) (es : List Event)
+    → frontAfter levels (andThen es (Write n byte)) .timer ≡ frontWritten (frontAfter levels es) n byte .timer
+written-timer levels n byte es = rw (over-then frontThen (frontAt levels) es (Write n byte), front-written (frontAfter levels es) n byte)
+
+sets-law : (levels byte : ℕ) (es : List Event) → hasBit (shows chip levels (andThen es (Write 4 byte)) 5) 3 ≡ hasBit (shows chip levels es 5) 3
+unfolding pick
+sets-law levels byte es =
+    ready-shown levels (andThen es (Write 4 byte))
+    ∙ rw (ready-shown levels es, written-timer levels 4 byte es) (changed-ready (frontAfter levels es .timer) (frontAfter levels es .acr) byte)
+
+kept-law : (levels byte : ℕ) (es : List Event) → eqb (modeOf (acrAfter es)) (modeOf byte) ≡ true
+    → countShown chip levels (andThen es (Write 4 byte)) ≡ countShown chip levels es
+unfolding modeChanged pick
+kept-law levels byte es h =
+    let same : eqb (modeOf (frontAfter levels es .acr)) (modeOf byte) ≡ true = rw (acr-told levels es) at h in
+    count-whole levels (andThen es (Write 4 byte)) ∙ rw (count-whole levels es, written-timer levels 4 byte es, same)
+
+preloads-law : (levels byte : ℕ) (es : List Event)
+    → (countShown chip levels (andThen es (Write 6 byte)) ≡ countShown chip levels es)
+    × (countShown chip levels (andThen es (Write 7 byte)) ≡ countShown chip levels es)
+unfolding pick
+preloads-law levels byte es = (
+  count-whole levels (andThen es (Write 6 byte)) ∙ rw (count-whole levels es, written-timer levels 6 byte es),
+  count-whole levels (andThen es (Write 7 byte)) ∙ rw (count-whole levels es, written-timer levels 7 byte es),
+)
+
 pub counter : Counter (chipOf stepOf)
 counter =
     record {
@@ -190,4 +234,8 @@ counter =
       output = output-law;
       clears = clears-law;
       runsOn = runs-law;
+      starts = starts-law;
+      sets = sets-law;
+      kept = kept-law;
+      preloads = preloads-law;
     }

@@ -15,8 +15,6 @@ pub mod Loads
 pub mod Stops
 pub mod Frames
 pub mod Senders
-pub mod Samples
-pub mod Stopped
 pub mod Feeds
 pub mod Lines
 pub mod Buffer

@@ -1,4 +1,4 @@
--- The three demands and the eleven cases, proved, and the laws that they go by; what meets their hypotheses; wrong chips that they shut out.
+-- The three demands and the eleven cases, proved, and the laws that they go by.
 pub mod Laws
 pub mod Reached
 pub mod Demand1
@@ -6,17 +6,13 @@ pub mod Registers
 pub mod Interrupts
 pub mod Numbers
 pub mod Outputs
-pub mod Pulses
 pub mod Counter
 pub mod Counted
-pub mod Sampling
+pub mod Pulses
+pub mod Ones
 pub mod Delivery
 pub mod Received
 pub mod Transmits
 pub mod Sends
 pub mod ReadBack
 pub mod Cases
-pub mod Examples
-pub mod SamplingExamples
-pub mod Wired
-pub mod Wrong

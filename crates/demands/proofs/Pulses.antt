@@ -2,11 +2,11 @@
 -- say when a side has a pulse. Assumes nothing.
 use Prim.Native.Nat.{ℕ, suc, _+_, _*_, _/_, _%_, _≤_, _<_}
 use mathlib.Core.Path.{_≡_, refl, sym, _∙_, ap}
-use mathlib.Core.Bool.{Bool, true, false, _&&_, and-eq-true-iff, true≢false}
+use mathlib.Core.Bool.{Bool, true, false, not, _&&_, and-eq-true-iff, true≢false}
 use mathlib.Core.List.{List, [], _∷_, _++_, append-assoc}
 use native.Mathlib.Omega.{arith}
 use lib.Dec.{eqb, ltb}
-use borrow.Author.Tests.{lt-ltb, le-ltb}
+use borrow.Author.Tests.{lt-ltb, le-ltb, ne-eqb, leb-true}
 use Rattle.format.specs.Digits.{bit}
 use Rattle.format.specs.Pick.{pick}
 use Rattle.format.proofs.Laws.Pick.{pick-all}
@@ -14,14 +14,15 @@ use Rattle.dividers.specs.Rates.{periodOf}
 use Rattle.clocks.specs.Pulses.{Side, codeOf}
 use Rattle.counting.specs.declared.counting.Counted.{Counted}
 use Rattle.counting.specs.declared.counting.Timer.{Timer}
-use Rattle.counting.specs.Counting.{modeOf, isTimer, tickPulses, edgePulses}
+use Rattle.counting.specs.Counting.{modeOf, isTimer, tickPulses, edgePulses, transmitterPulses, countedDown, timerPulsed}
 use Rattle.counting.specs.Counting as Counting
-use Rattle.timer.specs.Timer.{tickedBy, edgedBy}
+use Rattle.timer.specs.Timer.{tickedBy, edgedBy, transmittedBy}
 use Rattle.timer.specs.Counts.{pulsesOf}
 use Rattle.timer.proofs.Counts.{toggles}
 use Rattle.timer.proofs.Sources.{leaves, sources}
 use Rattle.inputs.specs.Inputs.{risesOf, movedOf}
 use Rattle.front.specs.declared.front.Front.{Front}
+use Rattle.front.specs.Front.{frontAt}
 use Rattle.front_clocks.specs.Clocking.{countedOf}
 use Rattle.events.specs.declared.events.Event.{Event}
 use Rattle.events.specs.declared.events.Event.the-variants.{ChipReset, Read, Write, Acknowledge, Pins, Tick}
@@ -29,17 +30,19 @@ use Rattle.demands.specs.Chip.{Channel, andThen}
 use Rattle.demands.specs.Told.{Programmed, levelsAfter}
 use Rattle.demands.specs.Registers.{acrAfter}
 use Rattle.demands.specs.Counter.{preloadAfter, Elapsed, elapsedThen, pulsesAfter, leavesCounter, allOf, since, Loaded}
-use Rattle.demands.specs.Clocks.{frontAfter, sideOf, pulsedBy, pulsedAfter}
+use Rattle.demands.specs.Clocks.{frontThen, frontAfter, sideOf, pulsedBy, pulsedAfter}
+use Rattle.demands.specs.Counted.{timerAfter}
 use Rattle.demands.specs.Pulses.{ticksAfter, isTick, clocks, edgeBy, codeAfter, Pulses}
-use Rattle.demands.proofs.Laws.Fronts.{frontMoved}
+use Rattle.demands.proofs.Laws.Fronts.{frontMoved, frontNext, front-next}
 use Rattle.demands.proofs.Laws.Told.{over-then, levels-told, acr-told, told}
 use Rattle.demands.proofs.Laws.Restarts.{fixed-pulse}
 use Rattle.demands.proofs.Laws.Timers.{Phased, preload-told}
 use Rattle.demands.proofs.Laws.Counting.{elapsedAt}
 use Rattle.demands.proofs.Laws.Loads.{Since, since-phases, WentBy, loaded-told, timer-since}
 use Rattle.demands.proofs.Laws.Clocks.{timer-pulse, timer-pins, pin-tick, pin-pulse}
+use Rattle.demands.proofs.Counted.{timer-told}
 
-code-told : (side : Side) (ch : Channel) (levels : ℕ) (es : List Event) → codeAfter side ch es ≡ codeOf side (sideOf ch (frontAfter levels es) .csr)
+pub code-told : (side : Side) (ch : Channel) (levels : ℕ) (es : List Event) → codeAfter side ch es ≡ codeOf side (sideOf ch (frontAfter levels es) .csr)
 code-told side ch levels es = ap (λ (p : Programmed). codeOf side (p .csr)) (told ch levels es)
 
 -- ---- codes 0 to 12 ----
@@ -122,7 +125,64 @@ counter side ch levels es e c h = toggle side ch f e (sym (code-told side ch lev
     go (Pins x) = counted-toggles (frontMoved f x) (f .inputs .levels) false mode
     go Tick = counted-toggles f (f .inputs .levels) true mode
 
--- ---- and in timer mode ----
+-- ---- in timer mode: by the output before and after ----
+
+neither : (b : Bool) → false ≡ (not b && b)
+neither true = refl
+neither false = refl
+
+-- whether a pulse or none, the toggle is the output's rise
+rises : (t : Timer) (mode : ℕ) (pulse : Bool) → isTimer mode ≡ true
+    → Counting.pulsedBy t mode pulse .toggled ≡ (not (t .output) && Counting.pulsedBy t mode pulse .timer .output)
+unfolding Counting.pulsedBy timerPulsed pick
+rises t mode true h = rw h (pick-all Rises (eqb (countedDown (t .count)) 0) _ _ (twice (not (t .output))) (neither (t .output)))
+  where
+    Rises : Counted → Type 0
+    Rises c = c .toggled ≡ (not (t .output) && c .timer .output)
+
+    twice : (b : Bool) → b ≡ (b && b)
+    twice true = refl
+    twice false = refl
+rises t mode false h = neither (t .output)
+
+counted-rises : (f : Front) (before : ℕ) (tick : Bool) → isTimer (modeOf (f .acr)) ≡ true
+    → countedOf f before tick .toggled ≡ (not (f .timer .output) && countedOf f before tick .timer .output)
+unfolding countedOf tickedBy edgedBy
+counted-rises f before tick h =
+    pick-all Rises tick _ _ (rises _ (modeOf (f .acr)) _ h) (pick-all Rises _ _ _ (rises _ (modeOf (f .acr)) _ h) (neither (f .timer .output)))
+  where
+    Rises : Counted → Type 0
+    Rises c = c .toggled ≡ (not (f .timer .output) && c .timer .output)
+
+-- a transmitter's clock is none of its own
+transmitted-none : (t : Timer) (mode : ℕ) (a b : Bool) → isTimer mode ≡ true → transmittedBy t mode a b ≡ t
+unfolding Counting.pulsedBy pick
+transmitted-none t mode a b h =
+    let four : 4 ≤ mode = leb-true 4 mode h in
+    let none : transmitterPulses mode a b ≡ false = rw (ne-eqb mode 1 (omega arith), ne-eqb mode 2 (omega arith)) in
+    ap (λ (pulse : Bool). Counting.pulsedBy t mode pulse .timer) none
+
+event-rises : (f : Front) (e : Event) → isTimer (modeOf (f .acr)) ≡ true
+    → toggledBy f e ≡ (clocks e && (not (f .timer .output) && frontNext f e .timer .output))
+event-rises f ChipReset h = refl
+event-rises f (Read n) h = refl
+event-rises f (Write n byte) h = refl
+event-rises f Acknowledge h = refl
+event-rises f (Pins x) h =
+    rw (transmitted-none (countedOf (frontMoved f x) (f .inputs .levels) false .timer) (modeOf (f .acr)) _ _ h)
+    (counted-rises (frontMoved f x) (f .inputs .levels) false h)
+event-rises f Tick h =
+    rw (transmitted-none (countedOf f (f .inputs .levels) true .timer) (modeOf (f .acr)) _ _ h) (counted-rises f (f .inputs .levels) true h)
+
+by-output : (side : Side) (ch : Channel) (levels : ℕ) (es : List Event) (e : Event) → codeAfter side ch es ≡ 13 → isTimer (modeOf (acrAfter es)) ≡ true
+    → pulsedAfter side ch levels es e ≡ (clocks e && (not (timerAfter levels es .output) && timerAfter levels (andThen es e) .output))
+by-output side ch levels es e c h =
+    let f : Front = frontAfter levels es in
+    toggle side ch f e (sym (code-told side ch levels es) ∙ c)
+    ∙ rw (timer-told levels es, timer-told levels (andThen es e), over-then frontThen (frontAt levels) es e, front-next f e)
+    (event-rises f e (rw (acr-told levels es) at h))
+
+-- ---- and once it is loaded ----
 
 pulse-toggles : (t : Timer) (mode k preload : ℕ) (pulse : Bool) → isTimer mode ≡ true → preload < 65536 → Since k preload t
     → Counting.pulsedBy t mode pulse .toggled ≡ (pulse && eqb (suc k % (2 * pulsesOf preload)) 0)
@@ -225,4 +285,4 @@ only side ch levels es (Pins x) h = absurd (true≢false h)
 only side ch levels es Tick h = absurd (true≢false h)
 
 pub pulses : Pulses pulsedAfter
-pulses = record { only = only; fixed = fixed; pin = pin; counter = counter; timer = timer }
+pulses = record { only = only; fixed = fixed; pin = pin; counter = counter; toggle = by-output; timer = timer }

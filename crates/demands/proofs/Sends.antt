@@ -1,31 +1,34 @@
 -- Demand 2, the sender: after its start a transmitter takes the inputs that the events bring, among them no reset; so TxD, which the lines show, has
 -- the levels of its frame one a pulse, and TxEMT waits for the pulse after the last, as is proved of one transmitter. Assumes nothing.
-use Prim.Native.Nat.{ℕ, _<_, _≤_}
+use Prim.Native.Nat.{ℕ, _<_, _≤_, _/_, _%_}
 use mathlib.Core.Path.{_≡_, refl, sym, ap, _∙_}
-use mathlib.Core.Bool.{Bool, true, false, not, true≢false, and-false, and-eq-true-iff}
+use mathlib.Core.Bool.{Bool, true, false, not, _&&_, _||_, true≢false, and-false, and-eq-true-iff}
 use mathlib.Core.List.{List, [], _∷_, _++_, append-assoc}
+use lib.Dec.{eqb}
 use lib.ListN.{length, getD, take}
 use Rattle.format.specs.Pick.{pick}
-use Rattle.format.proofs.Laws.Pick.{pick-yes, pick-all}
+use Rattle.format.proofs.Laws.Pick.{pick-yes, pick-no, pick-all}
 use Rattle.sending.specs.declared.sending.Standing.{Standing}
 use Rattle.sending.specs.declared.state.Transmitter.{Transmitter}
-use Rattle.sending.specs.Sending.{canStart, begunOf, sentOnOf, heldHigh, pulsedOf}
+use Rattle.sending.specs.Sending.{clearToSend, canStart, begunOf, sentOnOf, heldHigh, pulsedOf}
 use Rattle.transmitter.specs.declared.transmitter.Input.{Input}
 use Rattle.transmitter.specs.declared.transmitter.Input.the-variants.{Pulse}
 use Rattle.transmitter.specs.Status.{shifterEmpty}
 use Rattle.transmitter.specs.Transmitter.{afterInput}
-use Rattle.transmitter.specs.Frames.{after, pulsesIn}
+use Rattle.transmitter.specs.Frames.{after, free, pulsesIn}
 use Rattle.transmitter.proofs.Frames as Frames
 use Rattle.clocks.specs.Pulses.Side.{transmits}
+use Rattle.bytes.specs.Bytes.{hasBit}
 use Rattle.events.specs.declared.events.Event.{Event}
 use Rattle.events.specs.declared.events.Event.the-variants.{ChipReset, Read, Write, Acknowledge, Pins, Tick}
 use Rattle.duart.specs.Duart.{stepOf}
-use Rattle.demands.specs.Chip.{Channel, chipOf, andThen, statusBit}
-use Rattle.demands.specs.Told.{programmed}
+use Rattle.demands.specs.Chip.{Channel, ofChannel, chipOf, andThen, statusBit}
+use Rattle.demands.specs.Told.{levelsAfter, unprogrammed, programmedThen, programmed}
 use Rattle.demands.specs.Clocks.{pulsedBy, pulsedAfter}
 use Rattle.demands.specs.Counter.{allOf}
+use Rattle.demands.specs.Pulses.{clocks}
 use Rattle.demands.specs.Sending.{standing, inputsAt, inputsFrom, senderAfter, txdAfter, Starts, startedFrame, keepsSending, pulsesFrom, sentFrom, Sends}
-use Rattle.demands.proofs.Laws.Told.{pulsed-enabled}
+use Rattle.demands.proofs.Laws.Told.{over-then, pulsed-enabled}
 use Rattle.demands.proofs.Laws.Looks.{chip}
 use Rattle.demands.proofs.Laws.Frames.{line-started}
 use Rattle.demands.proofs.Laws.Senders.{sender-more, sender-then, txd-shown, keeps-from, pulses-from, line-from}
@@ -48,6 +51,11 @@ ready-then levels ch es h =
     not-true true e = absurd (true≢false (sym e))
     not-true false e = refl
 
+-- MR2 bit 4
+chosen-bit : (mr2 : ℕ) → hasBit mr2 4 ≡ eqb (mr2 / 16 % 2) 1
+unfolding hasBit pick
+chosen-bit mr2 = refl
+
 -- ---- a pulse ----
 
 -- an event that pulses it brings the pulse, and no more
@@ -66,18 +74,18 @@ sender-pulsed : (levels : ℕ) (ch : Channel) (es : List Event) (e : Event) → 
 unfolding after
 sender-pulsed levels ch es e h = sender-then levels ch es e ∙ ap (after afterInput (senderAfter levels ch es)) (pulse-brought levels ch es e h)
 
--- it fills no holding place, and leaves the enable
-pulsed-clear : (t : Transmitter) (s : Standing) → t .full ≡ false → pulsedOf t s .full ≡ false
+-- where none can start it leaves the holding place
+pulsed-held : (t : Transmitter) (s : Standing) → canStart t s ≡ false → pulsedOf t s .full ≡ t .full
 unfolding pulsedOf sentOnOf heldHigh begunOf
-pulsed-clear t s h =
-    pick-all Clear _ _ _ (pick-all Clear _ _ _ h begun)
-    (pick-all Clear _ _ _ h (pick-all Clear _ _ _ (pick-all Clear _ _ _ (pick-all Clear _ _ _ h h) h) begun))
+pulsed-held t s h =
+    pick-all Same _ _ _ (pick-all Same _ _ _ refl begun)
+    (pick-all Same _ _ _ refl (pick-all Same _ _ _ (pick-all Same _ _ _ (pick-all Same _ _ _ refl refl) refl) begun))
   where
-    Clear : Transmitter → Type 0
-    Clear x = x .full ≡ false
+    Same : Transmitter → Type 0
+    Same x = x .full ≡ t .full
 
-    begun : Clear (begunOf t s)
-    begun = pick-all Clear _ _ _ refl (pick-all Clear _ _ _ h h)
+    begun : Same (begunOf t s)
+    begun = rw (pick-no (canStart t s) _ _ h) (pick-all Same _ _ _ refl refl)
 
 pulse-ready : (levels : ℕ) (ch : Channel) (es : List Event) (e : Event) → pulsedAfter transmits ch levels es e ≡ true
     → statusBit chip levels ch es 2 ≡ true → statusBit chip levels ch (andThen es e) 2 ≡ true
@@ -87,7 +95,61 @@ pulse-ready levels ch es e h k =
     let u : senderAfter levels ch (andThen es e) ≡ afterInput (senderAfter levels ch es) (Pulse (standing levels ch es e)) =
     sender-pulsed levels ch es e h in
     ready-when levels ch (andThen es e) (rw u (pulsed-enabled (senderAfter levels ch es) _ ∙ both .0))
-    (rw u (pulsed-clear (senderAfter levels ch es) _ (both .1)))
+    (rw u (pulsed-held (senderAfter levels ch es) _ (rw (both .1, and-false)) ∙ both .1))
+
+-- ---- CTS ----
+
+-- chosen, and high: none can start
+held-back : (levels : ℕ) (ch : Channel) (es : List Event) (e : Event) (t : Transmitter) → hasBit (programmed ch es .mr2) 4 ≡ true
+    → hasBit (levelsAfter levels (andThen es e)) (ofChannel ch 0 1) ≡ true → canStart t (standing levels ch es e) ≡ false
+held-back levels ch es e t chosen high =
+    let shut : clearToSend (standing levels ch es e) ≡ false = rw (high, ← chosen-bit (programmed ch es .mr2), chosen) in
+    rw (shut, and-false)
+
+holding-stays : (levels : ℕ) (ch : Channel) (es : List Event) (e : Event) → clocks e ≡ true
+    → ((t : Transmitter) → canStart t (standing levels ch es e) ≡ false)
+    → senderAfter levels ch (andThen es e) .full ≡ senderAfter levels ch es .full
+unfolding inputsAt after afterInput
+holding-stays levels ch es e k none = rw (sender-then levels ch es e) (go e k none)
+  where
+    t : Transmitter
+    t = senderAfter levels ch es
+
+    go : (e : Event) → clocks e ≡ true → ((t : Transmitter) → canStart t (standing levels ch es e) ≡ false)
+        → after afterInput t (inputsAt levels ch es e) .full ≡ t .full
+    go ChipReset k none = absurd (true≢false (sym k))
+    go (Read n) k none = absurd (true≢false (sym k))
+    go (Write n byte) k none = absurd (true≢false (sym k))
+    go Acknowledge k none = absurd (true≢false (sym k))
+    go (Pins x) k none =
+        pick-all (λ (xs : List Input). after afterInput t xs .full ≡ t .full) (pulsedAfter transmits ch levels es (Pins x)) _ _
+        (pulsed-held t _ (none t)) refl
+    go Tick k none =
+        pick-all (λ (xs : List Input). after afterInput t xs .full ≡ t .full) (pulsedAfter transmits ch levels es Tick) _ _
+        (pulsed-held t _ (none t)) refl
+
+programmed-stays : (ch : Channel) (es : List Event) (e : Event) → clocks e ≡ true → programmed ch (andThen es e) ≡ programmed ch es
+unfolding programmedThen
+programmed-stays ch es e k = over-then (programmedThen ch) unprogrammed es e ∙ go e k
+  where
+    go : (e : Event) → clocks e ≡ true → programmedThen ch (programmed ch es) e ≡ programmed ch es
+    go ChipReset k = absurd (true≢false (sym k))
+    go (Read n) k = absurd (true≢false (sym k))
+    go (Write n byte) k = absurd (true≢false (sym k))
+    go Acknowledge k = absurd (true≢false (sym k))
+    go (Pins x) k = refl
+    go Tick k = refl
+
+waits : (levels : ℕ) (ch : Channel) (es : List Event) (e : Event) → hasBit (programmed ch es .mr2) 4 ≡ true
+    → hasBit (levelsAfter levels (andThen es e)) (ofChannel ch 0 1) ≡ true → clocks e ≡ true
+    → statusBit chip levels ch (andThen es e) 2 ≡ statusBit chip levels ch es 2
+waits levels ch es e chosen high k =
+    ready-shown levels ch (andThen es e)
+    ∙ rw (
+      ready-shown levels ch es,
+      programmed-stays ch es e k,
+      holding-stays levels ch es e k (λ t. held-back levels ch es e t chosen high),
+    )
 
 -- ---- the start, and on ----
 
@@ -97,6 +159,28 @@ leaves levels ch es e h =
     let left = Frames.sends .leaves t (standing levels ch es e) (h .startable) in
     let u : senderAfter levels ch (andThen es e) ≡ afterInput t (Pulse (standing levels ch es e)) = sender-pulsed levels ch es e (h .pulse) in
     ready-when levels ch (andThen es e) (rw u (left .enabled ∙ h .startable .enabled)) (rw u (left .full))
+
+goes : (levels : ℕ) (ch : Channel) (es : List Event) (e : Event) → pulsedAfter transmits ch levels es e ≡ true
+    → free (senderAfter levels ch es) ≡ true → programmed ch es .transmits ≡ true → statusBit chip levels ch es 2 ≡ false
+    → (hasBit (programmed ch es .mr2) 4 ≡ true → hasBit (levelsAfter levels (andThen es e)) (ofChannel ch 0 1) ≡ false)
+    → statusBit chip levels ch (andThen es e) 2 ≡ true
+goes levels ch es e p idle on ready low =
+    leaves levels ch es e
+    (record { pulse = p; startable = record { idle = idle; enabled = enabled-told levels ch es ∙ on; full = full; clear = clear } })
+  where
+    held : (b : Bool) → (true && not b) ≡ false → b ≡ true
+    held true h = refl
+    held false h = absurd (true≢false h)
+
+    full : senderAfter levels ch es .full ≡ true
+    full = held _ (rw (ready-shown levels ch es, on) at ready)
+
+    by : (b c : Bool) → (b ≡ true → c ≡ false) → (not b || not c) ≡ true
+    by true c h = rw (h refl)
+    by false c h = refl
+
+    clear : clearToSend (standing levels ch es e) ≡ true
+    clear = rw (← chosen-bit (programmed ch es .mr2)) (by _ _ low)
 
 -- the inputs after its pulse
 abbrev restOf : ℕ → Channel → List Event → Event → List Event → List Input
@@ -166,4 +250,4 @@ over levels ch es fs e next h k all p ready =
     empty-shown levels ch (andThen now next) ∙ rw (pulse-ready levels ch now next p ready, empty)
 
 pub sends : Sends (chipOf stepOf)
-sends = record { leaves = leaves; level = level; line = sent-line; busy = busy; over = over }
+sends = record { waits = waits; goes = goes; leaves = leaves; level = level; line = sent-line; busy = busy; over = over }

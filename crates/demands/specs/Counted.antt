@@ -31,6 +31,15 @@ pinsOne ch levels es x =
     let f : Front = frontAfter levels es in
     clocksOf ch (withPorts f (movedOf (f .inputs) x) (f .outputs)) (f .inputs .levels) false .one
 
+-- or any event
+unfoldable pub oneAfter : Channel → ℕ → List Event → Event → Bool
+oneAfter ch levels es ChipReset = false
+oneAfter ch levels es (Read n) = false
+oneAfter ch levels es (Write n byte) = false
+oneAfter ch levels es Acknowledge = false
+oneAfter ch levels es (Pins x) = pinsOne ch levels es x
+oneAfter ch levels es Tick = tickOne ch levels es
+
 -- one event, in the mode that ACR 6-4 have chosen; "counter/timer from ticks or IP2; .. counter from a 1X transmitter clock" last
 unfoldable pub timerThen : ℕ → List Event → Timer → Event → Timer
 timerThen levels es t ChipReset = freshTimer

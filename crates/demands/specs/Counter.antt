@@ -66,7 +66,7 @@ pulsesAfter mode levels es = over (elapsedThen mode) (record { ticks = 0; edges 
 
 -- ---- the statement ----
 
--- no chip reset, no other mode or preload, no start and no stop
+-- no chip reset, no write of ACR or of a preload, no start and no stop
 abbrev pub leavesCounter : Event → Bool
 leavesCounter ChipReset = false
 leavesCounter (Read n) = not (eqb n 14) && not (eqb n 15)
@@ -111,7 +111,7 @@ pub record Counter (c : Chip) : Type 0 where
   pub terminal : (levels mode : ℕ) (es fs : List Event) → Loaded mode es (Read 14) fs → isTimer mode ≡ false
       → hasBit (shows c levels (es ++ Read 14 ∷ fs) 5) 3
       ≡ (hasBit (shows c levels es 5) 3 || leb (pulsesOf (preloadAfter es)) (since mode levels es (Read 14) fs))
-  -- "stop halts and clears the bit"; "A change of ACR 6-4 reloads, .. setting no bit, and runs exactly in timer modes."
+  -- "stop halts"; "A change of ACR 6-4 reloads, .. and runs exactly in timer modes."
   pub halts : (levels : ℕ) (es fs : List Event) → isTimer (modeOf (acrAfter es)) ≡ false → allOf leavesCounter fs ≡ true
       → countShown c levels (es ++ Read 15 ∷ fs) ≡ countShown c levels es
   pub changed : (levels mode byte : ℕ) (es fs : List Event) → loads mode es (Write 4 byte) ≡ true → isTimer mode ≡ false
@@ -128,9 +128,18 @@ pub record Counter (c : Chip) : Type 0 where
   pub output : (levels mode : ℕ) (es fs : List Event) (load : Event) → Loaded mode es load fs → isTimer mode ≡ true
       → eqb (over opcrThen 0 (es ++ load ∷ fs) / 4 % 4) 1 ≡ true
       → hasBit (linesAfter c levels (es ++ load ∷ fs) .op) 3 ≡ eqb (since mode levels es load fs / pulsesOf (preloadAfter es) % 2) 0
-  -- "stop clears the bit": of a counter and of a timer, which goes on as if there had been no stop ("stop clears the bit only")
+  -- "stop clears the bit": of a counter and of a timer, whose count and output go on as if there had been no stop ("stop clears the bit only")
   pub clears : (levels : ℕ) (es : List Event) → hasBit (shows c levels (andThen es (Read 15)) 5) 3 ≡ false
   pub runsOn : (levels : ℕ) (es fs : List Event) → isTimer (modeOf (acrAfter es)) ≡ true → allOf leavesCounter fs ≡ true
       → (countShown c levels (es ++ Read 15 ∷ fs) ≡ countShown c levels (es ++ fs))
       × (eqb (over opcrThen 0 (es ++ fs) / 4 % 4) 1 ≡ true
       → hasBit (linesAfter c levels (es ++ Read 15 ∷ fs) .op) 3 ≡ hasBit (linesAfter c levels (es ++ fs) .op) 3)
+  -- "start reloads .., setting no bit"; "A change of ACR 6-4 reloads, .. setting no bit": nor do they clear it, nor does any write of ACR
+  pub starts : (levels : ℕ) (es : List Event) → hasBit (shows c levels (andThen es (Read 14)) 5) 3 ≡ hasBit (shows c levels es 5) 3
+  pub sets : (levels byte : ℕ) (es : List Event) → hasBit (shows c levels (andThen es (Write 4 byte)) 5) 3 ≡ hasBit (shows c levels es 5) 3
+  -- a write of ACR that leaves bits 6-4, or of a preload, leaves the count
+  pub kept : (levels byte : ℕ) (es : List Event) → eqb (modeOf (acrAfter es)) (modeOf byte) ≡ true
+      → countShown c levels (andThen es (Write 4 byte)) ≡ countShown c levels es
+  pub preloads : (levels byte : ℕ) (es : List Event)
+      → (countShown c levels (andThen es (Write 6 byte)) ≡ countShown c levels es)
+      × (countShown c levels (andThen es (Write 7 byte)) ≡ countShown c levels es)

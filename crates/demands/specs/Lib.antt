@@ -7,10 +7,9 @@ pub mod Reached
 pub mod Demand1
 pub mod Numbers
 pub mod Registers
-pub mod Pulses
 pub mod Counter
 pub mod Counted
-pub mod Sampling
+pub mod Pulses
 pub mod Delivery
 pub mod Received
 pub mod Sending

@@ -1,10 +1,11 @@
 -- "Crystal ticks, 16X pulses and whole bits are three counts the manual keeps apart.": when each side of a channel has its pulses, by the events and by
 -- what the program set. It is said of any way to tell it, and proved of the one that the demands speak of. Assumes nothing.
-use Prim.Native.Nat.{ℕ, suc, _*_, _<_, _/_, _%_}
+use Prim.Native.Nat.{ℕ, suc, _+_, _*_, _<_, _/_, _%_}
 use mathlib.Core.Path.{_≡_}
-use mathlib.Core.Bool.{Bool, true, false, _&&_}
-use mathlib.Core.List.{List, _∷_, _++_}
+use mathlib.Core.Bool.{Bool, true, false, not, _&&_}
+use mathlib.Core.List.{List, [], _∷_, _++_}
 use lib.Dec.{eqb, ltb}
+use Rattle.format.specs.Digits.{bit}
 use Rattle.format.specs.Pick.{pick}
 use Rattle.dividers.specs.Rates.{periodOf}
 use Rattle.clocks.specs.Pulses.{Side, codeOf}
@@ -18,6 +19,7 @@ use Rattle.demands.specs.Chip.{Channel, ofChannel, registerOf, andThen, 
 use Rattle.demands.specs.Told.{levelsAfter, programmed}
 use Rattle.demands.specs.Registers.{acrAfter}
 use Rattle.demands.specs.Counter.{preloadAfter, pulsesAfter, since, Loaded}
+use Rattle.demands.specs.Counted.{timerAfter}
 
 -- whether an event pulses a side of a channel, after a chip reset with these levels on the pins and then these events
 abbrev pub Pulsing : Type 0
@@ -93,9 +95,32 @@ pub record Pulses (pulsed : Pulsing) : Type 0 where
   -- "13: the timer's toggle to high .., none in counter mode."
   pub counter : (side : Side) (ch : Channel) (levels : ℕ) (es : List Event) (e : Event) → codeAfter side ch es ≡ 13 → isTimer (modeOf (acrAfter es)) ≡ false
       → pulsed side ch levels es e ≡ false
+  pub toggle : (side : Side) (ch : Channel) (levels : ℕ) (es : List Event) (e : Event) → codeAfter side ch es ≡ 13 → isTimer (modeOf (acrAfter es)) ≡ true
+      → pulsed side ch levels es e ≡ (clocks e && (not (timerAfter levels es .output) && timerAfter levels (andThen es e) .output))
   -- once it is loaded the toggle to high comes with every second terminal: the event pulses the timer, and so many pulses have come with it
   pub timer : (side : Side) (ch : Channel) (levels mode : ℕ) (es fs : List Event) (load e : Event) → codeAfter side ch (es ++ load ∷ fs) ≡ 13
       → Loaded mode es load (andThen fs e) → isTimer mode ≡ true
       → pulsed side ch levels (es ++ load ∷ fs) e
       ≡ (ltb (pulsesAfter mode levels (es ++ load ∷ fs)) (pulsesAfter mode levels (es ++ load ∷ andThen fs e))
       && eqb (suc (since mode levels es load fs) % (2 * pulsesOf (preloadAfter es))) 0)
+
+-- ---- the 1X transmitter clock ----
+
+-- the transmitter's pulses since its channel's phases restarted
+unfoldable pub sentSince : Pulsing → Channel → ℕ → Restarts → List Event → List Event → ℕ
+sentSince pulsed ch levels x before [] = x .ticks
+sentSince pulsed ch levels x before (e ∷ es) =
+    sentSince pulsed ch levels
+    (pick (clocks e) (record { acr = x .acr; ticks = x .ticks + bit (pulsed transmits ch levels before e) }) (restartsThen ch x e))
+    (andThen before e) es
+
+abbrev pub sentAfter : Pulsing → Channel → ℕ → List Event → ℕ
+sentAfter pulsed ch levels es = sentSince pulsed ch levels (record { acr = 0; ticks = 0 }) [] es
+
+pub record Ones (pulsed : Pulsing) (one : Channel → ℕ → List Event → Event → Bool) : Type 0 where
+  -- "every 16th 16X pulse since that phase restarted"
+  pub sixteenth : (ch : Channel) (levels : ℕ) (es : List Event) (e : Event) → (codeAfter transmits ch es ≡ 15 → ⊥)
+      → one ch levels es e ≡ (pulsed transmits ch levels es e && eqb (suc (sentAfter pulsed ch levels es) % 16) 0)
+  -- "or each 1X pulse"
+  pub each : (ch : Channel) (levels : ℕ) (es : List Event) (e : Event) → codeAfter transmits ch es ≡ 15
+      → one ch levels es e ≡ pulsed transmits ch levels es e

@@ -16,7 +16,7 @@ use Rattle.transmitter.specs.declared.transmitter.Input.{Input}
 use Rattle.transmitter.specs.declared.transmitter.Input.the-variants as Inputs
 use Rattle.transmitter.specs.Transmitter.{afterInput}
 use Rattle.transmitter.specs.Status.{shifterEmpty}
-use Rattle.transmitter.specs.Frames.{after, Startable, frameAt}
+use Rattle.transmitter.specs.Frames.{after, free, Startable, frameAt}
 use Rattle.clocks.specs.Channel.{isSixteen}
 use Rattle.clocks.specs.Pulses.Side.{transmits}
 use Rattle.bytes.specs.Bytes.{hasBit}
@@ -27,6 +27,7 @@ use Rattle.demands.specs.Chip.{Chip, Channel, ofChannel, registerOf, and
 use Rattle.demands.specs.Told.{Programmed, levelsAfter, programmed}
 use Rattle.demands.specs.Clocks.{pulsedAfter}
 use Rattle.demands.specs.Counter.{allOf}
+use Rattle.demands.specs.Pulses.{clocks}
 use Rattle.demands.specs.Delivery.{commands}
 
 -- ---- what an event brings to a channel's transmitter ----
@@ -126,6 +127,14 @@ sentFrom c levels ch before (e ∷ es) =
     pick (pulsedAfter transmits ch levels before e) (txdAfter c levels ch (andThen before e) ∷ []) [] ++ sentFrom c levels ch (andThen before e) es
 
 pub record Sends (c : Chip) : Type 0 where
+  -- "CTS (if chosen; IP0 for A, IP1 for B) is low": else what is held stays; and one that is held by an idle, enabled transmitter starts on a pulse
+  pub waits : (levels : ℕ) (ch : Channel) (es : List Event) (e : Event) → hasBit (programmed ch es .mr2) 4 ≡ true
+      → hasBit (levelsAfter levels (andThen es e)) (ofChannel ch 0 1) ≡ true → clocks e ≡ true
+      → statusBit c levels ch (andThen es e) 2 ≡ statusBit c levels ch es 2
+  pub goes : (levels : ℕ) (ch : Channel) (es : List Event) (e : Event) → pulsedAfter transmits ch levels es e ≡ true
+      → free (senderAfter levels ch es) ≡ true → programmed ch es .transmits ≡ true → statusBit c levels ch es 2 ≡ false
+      → (hasBit (programmed ch es .mr2) 4 ≡ true → hasBit (levelsAfter levels (andThen es e)) (ofChannel ch 0 1) ≡ false)
+      → statusBit c levels ch (andThen es e) 2 ≡ true
   -- with its start a character leaves the holding place
   pub leaves : (levels : ℕ) (ch : Channel) (es : List Event) (e : Event) → Starts levels ch es e → statusBit c levels ch (andThen es e) 2 ≡ true
   -- TxD after the k-th pulse from the start is level k-1 of the frame, and stays so until the next, whatever else comes but a reset
@@ -140,7 +149,7 @@ pub record Sends (c : Chip) : Type 0 where
   pub busy : (levels : ℕ) (ch : Channel) (es fs : List Event) (e : Event) → Starts levels ch es e → allOf (keepsSending ch) fs ≡ true
       → pulsesFrom levels ch (andThen es e) fs < length (startedFrame levels ch es e)
       → statusBit c levels ch (andThen es e ++ fs) 3 ≡ false
-  -- the pulse after its last sets it, if no other character can start
+  -- the pulse after its last sets it, if no other one is held
   pub over : (levels : ℕ) (ch : Channel) (es fs : List Event) (e next : Event) → Starts levels ch es e → allOf (keepsSending ch) fs ≡ true
       → pulsesFrom levels ch es (e ∷ fs) ≡ length (startedFrame levels ch es e) → pulsedAfter transmits ch levels (andThen es e ++ fs) next ≡ true
       → statusBit c levels ch (andThen es e ++ fs) 2 ≡ true → statusBit c levels ch (andThen (andThen es e ++ fs) next) 3 ≡ true

@@ -84,7 +84,7 @@ stands-at : (s r : Sides.Side) → s ≡ r → {acr before : ℕ} → acr ≡ be
 stands-at s r w e d p = rw (w, e, d) p
 
 -- a side whose clocks are another's
-abbrev SameClocks : Sides.Side → Sides.Side → Type 0
+abbrev pub SameClocks : Sides.Side → Sides.Side → Type 0
 SameClocks r s = (s .csr ≡ r .csr) × (s .phases ≡ r .phases)
 
 stands-same : (acr ticks : ℕ) (r s : Sides.Side) → SameClocks r s → Stands acr ticks r → Stands acr ticks s
@@ -112,7 +112,7 @@ unfolding pick
 pick-other P t x y e q = rw e q
 
 -- one that is not to the channel's CSR or to ACR
-written-same : (ch : Channel) (f : Front) (n byte : ℕ) → eqb n (registerOf ch 1) ≡ false → eqb n 4 ≡ false
+pub written-same : (ch : Channel) (f : Front) (n byte : ℕ) → eqb n (registerOf ch 1) ≡ false → eqb n 4 ≡ false
     → SameClocks (sideOf ch f) (sideWritten ch f n byte)
 unfolding modeWritten sideCommanded bufferWritten
 written-same ch f n byte h k =
@@ -127,7 +127,7 @@ written-same ch f n byte h k =
     P s = SameClocks (sideOf ch f) s
 
 -- one to its CSR
-csr-restarts : (ch : Channel) (f : Front) (n byte : ℕ) → eqb n (registerOf ch 1) ≡ true → sideWritten ch f n byte .phases ≡ restarted
+pub csr-restarts : (ch : Channel) (f : Front) (n byte : ℕ) → eqb n (registerOf ch 1) ≡ true → sideWritten ch f n byte .phases ≡ restarted
 unfolding csrWritten pick
 csr-restarts A f n byte e = let z : n ≡ 1 = eqb-true n 1 e in rw z
 csr-restarts B f n byte e = let z : n ≡ 9 = eqb-true n 9 e in rw z
@@ -143,7 +143,7 @@ acr-changes ch f byte ticks p = go (eqb (f .acr / 128) (byte / 128)) refl
     go true e side h = rw (e, ← eqb-true (f .acr / 128) (byte / 128) e) (p side h)
     go false e side h = rw e (phase-restarted side _)
 
-acr-written : (ch : Channel) (f : Front) (n byte : ℕ) → eqb n 4 ≡ true → sideWritten ch f n byte ≡ setChanged (sideOf ch f) (f .acr) byte
+pub acr-written : (ch : Channel) (f : Front) (n byte : ℕ) → eqb n 4 ≡ true → sideWritten ch f n byte ≡ setChanged (sideOf ch f) (f .acr) byte
 unfolding pick
 acr-written A f n byte e = let z : n ≡ 4 = eqb-true n 4 e in rw z
 acr-written B f n byte e = let z : n ≡ 4 = eqb-true n 4 e in rw z
@@ -191,7 +191,7 @@ phases-next ch x f Acknowledge p = p .phases
 phases-next ch x f (Pins levels) p = stands-clocked (f .acr) (x .ticks) (sideOf ch f) _ refl (p .phases)
 phases-next ch x f Tick p = stands-ticked (f .acr) (x .ticks) (sideOf ch f) _ refl (p .phases)
 
-acr-restarts : (ch : Channel) (x : Restarts) (e : Event) → restartsThen ch x e .acr ≡ lastWritten 4 0 (x .acr) e
+pub acr-restarts : (ch : Channel) (x : Restarts) (e : Event) → restartsThen ch x e .acr ≡ lastWritten 4 0 (x .acr) e
 unfolding pick
 acr-restarts ch x ChipReset = refl
 acr-restarts ch x (Read n) = refl

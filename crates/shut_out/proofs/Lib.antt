@@ -1,4 +1,4 @@
--- Wrong chips, each right but for one fault, and each shut out by a statement. Assumes nothing.
+-- Wrong chips, each right but for one fault, and each shut out by a statement.
 pub mod Chips
 pub mod Laws
 pub mod Counter

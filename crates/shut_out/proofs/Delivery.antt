@@ -67,15 +67,15 @@ use Rattle.chip.specs.Lists.{Seen}
 use Rattle.chip.specs.Sound.{after}
 use Rattle.chip.proofs.Examples.{idleLines}
 use Rattle.chip.proofs.Wrong.{statusTakes, crossed}
 use Rattle.demands.specs.Chip.{Chip, Channel, chipOf, over, statusBit}
 use Rattle.demands.specs.Chip.Channel.{A, B}
 use Rattle.demands.specs.Told.{programmedThen}
 use Rattle.demands.specs.Clocks.{clocksOf}
 use Rattle.demands.specs.Clocks as inChipClocks
 use Rattle.demands.specs.Delivery.{linesAt, fateOf, ledgerFrom, ledger, readFrom, heldFor, held, Demand3}
 use Rattle.demands.specs.Cases.{heard}
-use Rattle.demands.proofs.Wrong.Chips.{constant, refusesAll, doesNothing, idlesLater, chipWith, readKeeps, resetGoesOn, hidesOverrun}
-use Rattle.demands.proofs.Wrong.Chips.{hidesMarks, alwaysReady}
+use Rattle.shut_out.proofs.Chips.{constant, refusesAll, doesNothing, idlesLater, chipWith, readKeeps, resetGoesOn, hidesOverrun}
+use Rattle.shut_out.proofs.Chips.{hidesMarks, alwaysReady}
 
 -- ---- what is due, and what was had ----
 

@@ -56,11 +56,11 @@ use Rattle.duart.specs.Duart as inDuart
 use Rattle.clocks.specs.Channel as inClocks
 use Rattle.front_clocks.specs.Clocking as inFrontClocks
 use Rattle.duart.specs.Duart.{refusedOf}
-use Rattle.clocks.specs.Pulses.Side.{receives}
+use Rattle.clocks.specs.Pulses.Side.{receives, transmits}
 use Rattle.request.specs.declared.request.FrameAnswer.{FrameAnswer}
 use Rattle.request.specs.Request.{firstRefusal, answerOf, requestOf, spaceAfter}
 use Rattle.events.specs.declared.events.Event.{Event}
-use Rattle.events.specs.declared.events.Event.the-variants.{ChipReset, Read, Write, Acknowledge, Tick}
+use Rattle.events.specs.declared.events.Event.the-variants.{ChipReset, Read, Write, Acknowledge, Pins, Tick}
 use Rattle.device.specs.declared.device.Device.{Device}
 use Rattle.chip.specs.Alone.{handedAfter}
 use Rattle.chip.specs.Lists.{Seen}
@@ -68,19 +68,20 @@ use Rattle.chip.specs.Sound.{after}
 use Rattle.chip.specs.Table.{Step}
 use Rattle.chip.proofs.Wrong as Wrong
 use Rattle.chip.proofs.Wrong.{isReadOf}
 use Rattle.demands.specs.Chip.{Chip, chipOf, over}
 use Rattle.demands.specs.Chip.Channel.{A}
 use Rattle.demands.specs.Told.{programmedThen}
 use Rattle.demands.specs.Clocks.{clocksOf, pulsedAfter}
 use Rattle.demands.specs.Clocks as inChipClocks
 use Rattle.demands.specs.Registers.{Registers, Interrupts, Outputs}
 use Rattle.demands.specs.Numbers.{numberAfter, Numbers}
 use Rattle.demands.specs.Demand1.{Request, Demand1}
-use Rattle.demands.specs.Pulses.{Pulsing, isTick, codeAfter, Pulses}
+use Rattle.demands.specs.Counted.{timerThen, timerFrom}
+use Rattle.demands.specs.Pulses.{Pulsing, isTick, codeAfter, Pulses, sentSince, Ones}
 use Rattle.demands.specs.Reached.{accepted, Reached, Unaltered}
 use Rattle.demands.specs.Cases.{heard}
-use Rattle.demands.proofs.Wrong.Chips.{doesNothing, vectorStuck, hidesReady, neverAsserts, acknowledgesAlways, showsBits, ignoresOpcr}
-use Rattle.demands.proofs.Wrong.Chips.{resetKeepsVector, changed, isWriteOf, sameFrame, oneMore, clearsRefused}
+use Rattle.shut_out.proofs.Chips.{doesNothing, vectorStuck, hidesReady, neverAsserts, acknowledgesAlways, showsBits, ignoresOpcr}
+use Rattle.shut_out.proofs.Chips.{resetKeepsVector, changed, isWriteOf, sameFrame, oneMore, clearsRefused}
 
 -- ---- more that are wrong ----
 
@@ -96,6 +97,10 @@ refusesDisabled d e = pick (isWriteOf 3 e && not (d .front .a .transmitter .enab
 abbrev pulsesAtStart : Pulsing
 pulsesAtStart side ch levels es e = pulsedAfter side ch levels es e || (isReadOf 14 e && eqb (codeAfter side ch es) 13)
 
+-- "13: the timer's toggle to high": it is no clock
+abbrev timerSilent : Pulsing
+timerSilent side ch levels es e = pulsedAfter side ch levels es e && not (eqb (codeAfter side ch es) 13)
+
 -- ---- the events ----
 
 abbrev vector : List Event
@@ -108,6 +113,10 @@ asking = Write 5 1 ∷ Write 2 4 ∷ []
 -- a character on receiver A, at 1X
 abbrev arrived : List Event
 arrived = Write 0 16 ∷ Write 1 255 ∷ Write 2 1 ∷ heard (true ∷ frame false (formatOf 16) 7 1)
+
+-- code 13, and a timer on ticks, preload 1: its output is low
+abbrev turned : List Event
+turned = Write 1 221 ∷ Write 7 1 ∷ Write 4 96 ∷ Tick ∷ []
 
 -- ---- shut out ----
 
@@ -147,13 +156,17 @@ pub record WrongLaws : Type 0 where
   pub no-sameFrame : (step : Step) (a : FrameAnswer) (space : List ℕ) → Demand1 step (sameFrame a space) → ⊥
   pub no-oneMore : (step : Step) → Demand1 step oneMore → ⊥
   pub no-clearsRefused : (step : Step) → Demand1 step clearsRefused → ⊥
-  -- no pulse at all, one at every tick, and one at a start
+  -- no pulse at all, one at every tick, one at a start, and none of the timer
   pub no-neverPulses : Pulses (λ side ch levels es e. false) → ⊥
   pub no-everyTick : Pulses (λ side ch levels es e. isTick e) → ⊥
   pub no-pulsesAtStart : Pulses pulsesAtStart → ⊥
+  pub no-timerSilent : Pulses timerSilent → ⊥
+  -- a 1X transmitter clock that never comes, and one that comes with each pulse
+  pub no-neverOne : Ones pulsedAfter (λ ch levels es e. false) → ⊥
+  pub no-eachOne : Ones pulsedAfter (pulsedAfter transmits) → ⊥
 
 pub wrong-laws : WrongLaws
-unfolding bitsOf valueOf oddOnes formatOf parityBitOf parityBits pick stopLengthOf rowOf stopBitsOf beforeStop bitsBeforeStopOf spread levels frame frameLengthOf frameBitsOf levelOf dataWidthOf samplesOf withSample parityWrongOf characterOf gapOf afterStop lowAt hunted lookedAgain followed waited finished sampled assembled sampleOf heldOf putOf withoutWaitingOf tookOf oldestMarks inArrivals.startedOf inTimer.startedOf enteredOf arrivedOf inArrivals.pulsedOf inSending.pulsedOf effectOf enablingOf shownMarks oldestRead readOf fedOf inSending.takenOf inDuart.takenOf begunOf bitOfPulse sentOnOf heldHigh writtenOf breakEnded droppedOf breakAsked afterInput dividedOf sixteenthOf periodOf restartedOnChange tickedOf sideOf transmitter1x inClocks.clockedOf inFrontClocks.clockedOf counterPulsed timerPulsed pulsedBy tickedBy edgedBy stoppedOf modeChanged hasBit weightOf byteOf movedOf pinsOfA pinsOfB drivenBy drivenOp3 opLevels freshSide modeRegister modeNotModelled modeWritten csrWritten setChanged bufferWritten transmitterPulsed lineOf sideClocked transmitterEffect receiverEffect transmitterEnabling receiverEnabling sideCommanded commandFeed receivedOf shownOf frontAt countedOf clockedWith levelsMoved sideWritten acrWritten sharedWritten registerWritten sideRead sharedRead registerRead frontData registerAbove15 forbiddenRead forbiddenCommand frontStepped writeNotModelled settingNotModelled assertedOf timerLevel linesOf registerData eventData freshDevice acknowledgedUnasserted firstOf numberOf refusalLines stepOf firstRefusal answerOf requestOf spaceAfter after chipOf over programmedThen clocksOf inChipClocks.pulsedBy handedAfter accepted numberAfter heard
+unfolding bitsOf valueOf oddOnes formatOf parityBitOf parityBits pick stopLengthOf rowOf stopBitsOf beforeStop bitsBeforeStopOf spread levels frame frameLengthOf frameBitsOf levelOf dataWidthOf samplesOf withSample parityWrongOf characterOf gapOf afterStop lowAt hunted lookedAgain followed waited finished sampled assembled sampleOf heldOf putOf withoutWaitingOf tookOf oldestMarks inArrivals.startedOf inTimer.startedOf enteredOf arrivedOf inArrivals.pulsedOf inSending.pulsedOf effectOf enablingOf shownMarks oldestRead readOf fedOf inSending.takenOf inDuart.takenOf begunOf bitOfPulse sentOnOf heldHigh writtenOf breakEnded droppedOf breakAsked afterInput dividedOf sixteenthOf periodOf restartedOnChange tickedOf sideOf transmitter1x inClocks.clockedOf inFrontClocks.clockedOf counterPulsed timerPulsed pulsedBy tickedBy edgedBy stoppedOf modeChanged hasBit weightOf byteOf movedOf pinsOfA pinsOfB drivenBy drivenOp3 opLevels freshSide modeRegister modeNotModelled modeWritten csrWritten setChanged bufferWritten transmitterPulsed lineOf sideClocked transmitterEffect receiverEffect transmitterEnabling receiverEnabling sideCommanded commandFeed receivedOf shownOf frontAt countedOf clockedWith levelsMoved sideWritten acrWritten sharedWritten registerWritten sideRead sharedRead registerRead frontData registerAbove15 forbiddenRead forbiddenCommand frontStepped writeNotModelled settingNotModelled assertedOf timerLevel linesOf registerData eventData freshDevice acknowledgedUnasserted firstOf numberOf refusalLines stepOf firstRefusal answerOf requestOf spaceAfter after chipOf over programmedThen clocksOf inChipClocks.pulsedBy handedAfter accepted numberAfter heard timerThen timerFrom sentSince
 wrong-laws =
     record {
       no-vectorStuck = λ h. eqb-false 15 64 refl (h .vector 255 vector);
@@ -183,4 +196,7 @@ wrong-laws =
       no-neverPulses = λ h. true≢false (sym (h .fixed receives A 255 (Write 1 187 ∷ replicate 23 Tick) Tick code-fixed));
       no-everyTick = λ h. true≢false (h .fixed receives A 255 (Write 1 187 ∷ []) Tick code-fixed);
       no-pulsesAtStart = λ h. true≢false (h .only receives A 255 (Write 1 221 ∷ Write 4 96 ∷ []) (Read 14) refl);
+      no-timerSilent = λ h. true≢false (sym (h .toggle receives A 255 turned Tick refl refl));
+      no-neverOne = λ h. true≢false (sym (h .each A 255 (Write 1 255 ∷ []) (Pins 247) refl));
+      no-eachOne = λ h. true≢false (h .sixteenth A 255 (Write 1 238 ∷ []) (Pins 247) (eqb-false 14 15 refl));
     }

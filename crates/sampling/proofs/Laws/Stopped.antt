@@ -14,7 +14,7 @@ use Rattle.hunting.specs.Hunting.{hunted, followed, waited}
 use Rattle.sampler.specs.Sampler.{sampleOf}
 use Rattle.sampler.specs.Lines.{Line, hears, arrivals}
 use Rattle.sampler.specs.Lines.Line.{pulse}
-use Rattle.demands.specs.Sampling.{Found, lines, allAt, allSixteen}
+use Rattle.sampling.specs.Sampling.{Found, lines, allAt, allSixteen}
 
 -- the lows after a low stop, and then the one that is p
 pub lows-again : (n : ℕ) (g : Setting) (lows : Found) (more : List Line) → allAt false lows ≡ true → length lows ≡ n

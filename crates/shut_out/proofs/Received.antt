@@ -1,13 +1,12 @@
--- What is said of a receiver shuts wrong chips out, and the sampling rule shuts out wrong ways to put characters together. A law is taken at a few events
--- or pulses, where what the wrong one gives and what the law says are computed, and differ. Assumes nothing.
-use Prim.Native.Nat.{ℕ, _+_, _-_, _/_, _%_, _≤_}
+-- What is said of a receiver shuts wrong chips out: a law is taken at a few events, where what the wrong one gives and what the law says are computed,
+-- and differ. Assumes nothing.
+use Prim.Native.Nat.{ℕ, _+_, _/_, _%_}
 use mathlib.Core.Path.{refl, sym, ap}
-use mathlib.Core.Bool.{Bool, true, false, not, _&&_, true≢false}
+use mathlib.Core.Bool.{Bool, true, false, _&&_, true≢false}
 use mathlib.Core.List.{List, [], _∷_, _++_}
-use native.Mathlib.Omega.{arith}
 use borrow.Author.Tests.{eqb-false}
 use lib.Dec.{eqb}
-use lib.ListN.{length, getD, replicate}
+use lib.ListN.{replicate}
 use Rattle.format.specs.Digits.{bitsOf, valueOf, oddOnes}
 use Rattle.format.specs.Format.{formatOf}
 use Rattle.format.specs.Parity.{parityBitOf, parityBits}
@@ -55,15 +54,9 @@ use Rattle.sending.specs.Sending as inSending
 use Rattle.duart.specs.Duart as inDuart
 use Rattle.clocks.specs.Channel as inClocks
 use Rattle.front_clocks.specs.Clocking as inFrontClocks
-use Rattle.character.specs.declared.character.Character.{Character}
 use Rattle.character.specs.declared.character.Marks.{Marks}
-use Rattle.character.specs.Character.{noMarks, noCharacter}
-use Rattle.assembly.specs.declared.state.Sampler.{Sampler}
-use Rattle.assembly.specs.declared.state.Setting.{Setting}
-use Rattle.assembly.specs.State.{hunting, assembling}
-use Rattle.hunting.specs.declared.hunting.Sampled.{Sampled}
-use Rattle.sampler.specs.Lines.{at16, hears, listOf}
-use Rattle.sampler.specs.Lines.Line.{pulse, enable, disable}
+use Rattle.character.specs.Character.{noMarks}
+use Rattle.sampler.specs.Lines.{hears}
 use Rattle.arrivals.specs.declared.arrivals.Receiver.{Receiver}
 use Rattle.arrivals.specs.Arrivals.{withChange}
 use Rattle.request.specs.Request.{firstRefusal, answerOf, requestOf, spaceAfter}
@@ -74,16 +67,15 @@ use Rattle.chip.specs.Lists.{Seen}
 use Rattle.chip.specs.Sound.{after}
 use Rattle.chip.specs.Table.{Step}
 use Rattle.chip.proofs.Wrong.{isReadOf}
 use Rattle.demands.specs.Chip.{chipOf, over}
 use Rattle.demands.specs.Chip.Channel.{A}
 use Rattle.demands.specs.Told.{programmedThen}
 use Rattle.demands.specs.Clocks.{clocksOf}
 use Rattle.demands.specs.Clocks as inChipClocks
 use Rattle.demands.specs.Delivery.{linesAt, fateOf, ledgerFrom, heldFor}
 use Rattle.demands.specs.Received.{lastFrom, sumsFrom, changeFrom, Received}
-use Rattle.demands.specs.Sampling.{Found, Assembly, Sixteen, Samples}
 use Rattle.demands.specs.Cases.{heard}
-use Rattle.demands.proofs.Wrong.Chips.{Feeding, chipWith, hidesMarks, leadsTo, shownBy}
+use Rattle.shut_out.proofs.Chips.{Feeding, chipWith, hidesMarks, leadsTo, shownBy}
 
 -- ---- more that are wrong ----
 
@@ -119,32 +111,6 @@ fullAtTwo = shownBy (λ d n byte. pick (eqb n 1 && eqb (d .a .queue .count) 2) (
 abbrev hidesCharacterMarks : Step
 hidesCharacterMarks = shownBy (λ d n byte. pick (eqb n 1 && eqb (d .front .a .mr1 / 32 % 2) 0) (byte % 32) byte)
 
--- nothing is put together
-abbrev none : Assembly
-none ls = []
-
--- "Then one sample each 16 pulses": the first comes 15 pulses after the start is confirmed, so that all come a pulse early
-abbrev earlier : Sampled → Sampler
-earlier x =
-    let s : Sampler = x .next in
-    pick (x .started) (assembling (s .setting) (record { 0 = s .left .0 - 1 }) (s .taken) (s .value)) s
-
-abbrev earlyFrom : Sampler → Assembly
-earlyFrom s [] = []
-earlyFrom s (x ∷ xs) = listOf (hears s x .came) ++ earlyFrom (earlier (hears s x)) xs
-
-abbrev early : Assembly
-early = earlyFrom (hunting true)
-
--- "at p+8 it must still be low, else hunt again": a low at p is enough
-abbrev unseenFrom : Sampler → Assembly
-unseenFrom s [] = []
-unseenFrom s (pulse level f ∷ xs) =
-    let x : Sampled = hears s (pulse (level && not (eqb (s .phase) 1)) f) in
-    listOf (x .came) ++ unseenFrom (x .next) xs
-unseenFrom s (enable ∷ xs) = unseenFrom (hears s enable .next) xs
-unseenFrom s (disable ∷ xs) = unseenFrom (hears s disable .next) xs
-
 -- ---- the events ----
 
 -- receiver A at 1X, with five data bits, MR1 as given; then one high, and these levels
@@ -157,26 +123,7 @@ breaks mr1 = line mr1 (replicate 7 false)
 abbrev one : List Bool
 one = frame false (formatOf 16) 7 1
 
--- ---- the pulses ----
-
-abbrev setting : Setting
-setting = at16 (formatOf 16)
-
--- low to p+23, high from p+24
-abbrev found : Found
-found = replicate 23 (false, setting) ++ replicate 81 (true, setting)
-
--- low to p+7, high from p+8
-abbrev short : Found
-short = replicate 7 (false, setting) ++ (true, setting) ∷ []
-
-abbrev highs : Found
-highs = replicate 96 (true, setting)
-
 -- ---- shut out ----
-
-five-eight : 5 ≤ 8
-five-eight = omega arith
 
 pub record WrongReceived : Type 0 where
   pub no-noChange : Received (chipWith noChange) → ⊥
@@ -186,10 +133,6 @@ pub record WrongReceived : Type 0 where
   pub no-fullAtTwo : Received (chipOf fullAtTwo) → ⊥
   pub no-hidesCharacterMarks : Received (chipOf hidesCharacterMarks) → ⊥
   pub no-hidesMarks : Received hidesMarks → ⊥
-  -- the sampling rule
-  pub no-none : Samples none → ⊥
-  pub no-early : Samples early → ⊥
-  pub no-unseen : Samples (unseenFrom (hunting true)) → ⊥
 
 pub wrong-received : WrongReceived
 unfolding bitsOf valueOf oddOnes formatOf parityBitOf parityBits pick stopLengthOf rowOf stopBitsOf beforeStop bitsBeforeStopOf spread levels frame frameLengthOf frameBitsOf levelOf dataWidthOf samplesOf withSample parityWrongOf characterOf gapOf afterStop lowAt hunted lookedAgain followed waited finished sampled assembled sampleOf heldOf putOf withoutWaitingOf tookOf oldestMarks inArrivals.startedOf inTimer.startedOf enteredOf arrivedOf inArrivals.pulsedOf inSending.pulsedOf effectOf enablingOf shownMarks oldestRead readOf fedOf inSending.takenOf inDuart.takenOf begunOf bitOfPulse sentOnOf heldHigh writtenOf breakEnded droppedOf breakAsked afterInput dividedOf sixteenthOf periodOf restartedOnChange tickedOf sideOf transmitter1x inClocks.clockedOf inFrontClocks.clockedOf counterPulsed timerPulsed pulsedBy tickedBy edgedBy stoppedOf modeChanged hasBit weightOf byteOf movedOf pinsOfA pinsOfB drivenBy drivenOp3 opLevels freshSide modeRegister modeNotModelled modeWritten csrWritten setChanged bufferWritten transmitterPulsed lineOf sideClocked transmitterEffect receiverEffect transmitterEnabling receiverEnabling sideCommanded commandFeed receivedOf shownOf frontAt countedOf clockedWith levelsMoved sideWritten acrWritten sharedWritten registerWritten sideRead sharedRead registerRead frontData registerAbove15 forbiddenRead forbiddenCommand frontStepped writeNotModelled settingNotModelled assertedOf timerLevel linesOf registerData eventData freshDevice acknowledgedUnasserted firstOf numberOf refusalLines stepOf firstRefusal answerOf requestOf spaceAfter after chipOf over programmedThen clocksOf inChipClocks.pulsedBy handedAfter hears linesAt fateOf ledgerFrom heldFor lastFrom sumsFrom changeFrom heard
@@ -202,10 +145,4 @@ wrong-received =
       no-fullAtTwo = λ h. true≢false (h .full 255 A (line 16 (one ++ one)));
       no-hidesCharacterMarks = λ h. true≢false (sym (ap (λ (x : Marks). x .broken) (h .character 255 A (breaks 16) refl)));
       no-hidesMarks = λ h. true≢false (sym (ap (λ (x : Marks). x .broken) (h .character 255 A (breaks 16) refl)));
-      no-none = λ h. eqb-false 0 1 refl (ap length (h .sixteen setting found [] sixteen (λ e. refl)));
-      no-early = λ h. eqb-false 30 31 refl (ap (λ (l : List Character). getD l 0 noCharacter .byte) (h .sixteen setting found [] sixteen (λ e. refl)));
-      no-unseen = λ h. eqb-false 1 0 refl (ap length (h .none setting short highs refl refl refl));
     }
-  where
-    sixteen : Sixteen setting found
-    sixteen = record { sixteen = refl; width = five-eight; low = refl; end = refl }

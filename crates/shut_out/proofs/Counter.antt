@@ -66,13 +66,13 @@ use Rattle.chip.specs.Alone.{handedAfter}
 use Rattle.chip.specs.Sound.{after}
 use Rattle.chip.specs.Table.{Step}
 use Rattle.chip.proofs.Wrong.{isReset, isReadOf}
 use Rattle.demands.specs.Chip.{chipOf, over}
 use Rattle.demands.specs.Told.{programmedThen}
 use Rattle.demands.specs.Clocks.{clocksOf}
 use Rattle.demands.specs.Clocks as inChipClocks
 use Rattle.demands.specs.Counter.{elapsedThen, Loaded, Counter}
 use Rattle.demands.specs.Counted.{timerThen, timerFrom, Counted}
-use Rattle.demands.proofs.Wrong.Chips.{isWriteOf, isClock, withFront, neverTerminal, countsNothing, leadsTo, stopsNothing}
+use Rattle.shut_out.proofs.Chips.{isWriteOf, isClock, withFront, neverTerminal, countsNothing, leadsTo, stopsNothing}
 
 -- ---- more that are wrong ----
 
@@ -113,6 +113,14 @@ stopHalts =
     (pick (isClock e && not (timerOf d .running)) (timerInstead x (withPhases (timerOf d) (timerOf x .ticks) (timerOf x .edges))) x)))
     x)
 
+-- "start reloads .., setting no bit": it clears the bit, and so does a write of ACR
+abbrev startClears : Step
+startClears = leadsTo (λ d e x. pick (isReadOf 14 e || isWriteOf 4 e) (timerInstead x (withReady (timerOf x) false)) x)
+
+-- "A change of ACR 6-4 reloads": so does any write of ACR
+abbrev writeReloads : Step
+writeReloads = leadsTo (λ d e x. pick (isWriteOf 4 e) (timerInstead x (withCount (timerOf x) (timerOf x .preload) (timerOf x .output))) x)
+
 -- ---- the events ----
 
 -- preload 1 in mode m
@@ -149,6 +157,11 @@ pub record WrongCounter : Type 0 where
   pub no-neverTerminal : Counter neverTerminal → ⊥
   pub no-neverTerminal-timer : Counter neverTerminal → ⊥
   pub no-stopsNothing : Counter (chipOf stopsNothing) → ⊥
+  -- the bit at a start, and at a write of ACR; the count at one that leaves bits 6-4, and at a write of a preload
+  pub no-startClears : Counter (chipOf startClears) → ⊥
+  pub no-startClears-change : Counter (chipOf startClears) → ⊥
+  pub no-writeReloads : Counter (chipOf writeReloads) → ⊥
+  pub no-preloadCounts-count : Counter (chipOf preloadCounts) → ⊥
   -- the same, after any events
   pub no-countsNothing-counted : Counted countsNothing → ⊥
   pub no-neverTerminal-counted : Counted neverTerminal → ⊥
@@ -166,6 +179,10 @@ wrong-counter =
       no-neverTerminal = λ h. true≢false (sym (h .terminal 255 3 (preloaded 3) sixteen counter-on refl));
       no-neverTerminal-timer = λ h. true≢false (sym (h .toggles 255 6 (preloaded 6) (Tick ∷ Tick ∷ []) (Read 14) timer refl));
       no-stopsNothing = λ h. true≢false (h .clears 255 (preloaded 3 ++ Read 14 ∷ sixteen));
+      no-startClears = λ h. true≢false (sym (h .starts 255 (preloaded 3 ++ Read 14 ∷ sixteen)));
+      no-startClears-change = λ h. true≢false (sym (h .sets 255 96 (preloaded 3 ++ Read 14 ∷ sixteen)));
+      no-writeReloads = λ h. eqb-false 5 0 refl (h .kept 255 0 (Write 7 5 ∷ []) refl);
+      no-preloadCounts-count = λ h. eqb-false 5 0 refl (h .preloads 255 5 [] .1);
       no-countsNothing-counted = λ h. eqb-false 0 1 refl (h .low 255 (preloaded 3 ++ Read 14 ∷ []));
       no-neverTerminal-counted = λ h. true≢false (sym (h .bit 255 (preloaded 0 ++ Read 14 ∷ rises)));
       no-resetRuns = λ h. eqb-false 255 0 refl (h .high 255 (ChipReset ∷ rises));

@@ -65,13 +65,13 @@ use Rattle.chip.specs.Lists.{Seen}
 use Rattle.chip.specs.Sound.{after}
 use Rattle.chip.specs.Table.{Step}
 use Rattle.chip.proofs.Wrong as Wrong
 use Rattle.demands.specs.Chip.{chipOf, over}
 use Rattle.demands.specs.Chip.Channel.{A, B}
 use Rattle.demands.specs.Told.{programmedThen}
 use Rattle.demands.specs.Clocks.{clocksOf}
 use Rattle.demands.specs.Clocks as inChipClocks
 use Rattle.demands.specs.Sending.{inputsAt, inputsFrom, Transmits, Starts, pulsesFrom, Sends}
-use Rattle.demands.proofs.Wrong.Chips.{isWrite, isWriteOf, neverSends, idlesAt, leadsTo, shownBy, keepsFirst, ignoresCts}
+use Rattle.shut_out.proofs.Chips.{isWrite, isWriteOf, neverSends, idlesAt, leadsTo, shownBy, keepsFirst, ignoresCts}
 
 -- ---- more that are wrong ----
 
@@ -182,7 +182,9 @@ pub record WrongSending : Type 0 where
   -- a write while disabled, and a second one
   pub no-takesDisabled : Transmits (chipOf takesDisabled) → ⊥
   pub no-keepsFirst-replaced : Transmits (chipOf keepsFirst) → ⊥
-  -- a character's start: TxRDY, and TxEMT
+  -- a character that CTS holds; a character's start: TxRDY, and TxEMT
+  pub no-ignoresCts-waits : Sends (chipOf ignoresCts) → ⊥
+  pub no-readyLate-goes : Sends (chipOf readyLate) → ⊥
   pub no-readyLate-leaves : Sends (chipOf readyLate) → ⊥
   pub no-emptyAsReady-busy : Sends (chipOf emptyAsReady) → ⊥
   -- the start bit; the lowest bit of the second write; the start bit once CTS is low
@@ -201,6 +203,8 @@ wrong-sending =
       no-emptyAsReady = λ h. true≢false (h .empty 255 A started);
       no-takesDisabled = λ h. true≢false (sym (ap (λ (x : Seen). x .lines .txda) (h .ignored 255 85 A [] (enabled 7 ++ falls ∷ []) (Read 1) refl)));
       no-keepsFirst-replaced = λ h. true≢false (ap (λ (x : Seen). x .lines .txda) (h .replaced 255 85 84 A (enabled 7) lowest (Read 1)));
+      no-ignoresCts-waits = λ h. true≢false (h .waits 255 A (sends 23) falls refl refl refl);
+      no-readyLate-goes = λ h. true≢false (sym (h .goes 255 A (sends 7) falls refl refl refl refl (λ k. absurd (true≢false (sym k)))));
       no-readyLate-leaves = λ h. true≢false (sym (h .leaves 255 A (sends 7) falls starts));
       no-emptyAsReady-busy = λ h. true≢false (h .busy 255 A (sends 7) [] falls starts refl zero-ten);
       no-neverSends = λ h. true≢false (h .level 255 A (sends 7) [] falls starts refl zero-ten);

@@ -1,5 +1,5 @@
 -- What the sampling rule supposes is met, by computing the definitions, with what then arrives: a frame, a low stop, a break, a low that is too short,
--- and at 1X. Assumes nothing.
+-- and at 1X; what an enable and a disable do, and break change. Assumes nothing.
 use mathlib.Core.Path.{_≡_, refl}
 use mathlib.Core.Bool.{Bool, true, false}
 use mathlib.Core.List.{List, [], _∷_, _++_, map}
@@ -20,9 +20,9 @@ use Rattle.assembly.specs.Assembly.{dataWidthOf, samplesOf, withSample, parityW
 use Rattle.assembly.specs.State.{hunting, gapOf, afterStop}
 use Rattle.hunting.specs.Hunting.{lowAt, hunted, lookedAgain, followed, waited}
 use Rattle.sampler.specs.Sampler.{finished, sampled, assembled, sampleOf}
-use Rattle.sampler.specs.Lines.{hears, arrivals}
-use Rattle.sampler.specs.Lines.Line.{pulse}
-use Rattle.demands.specs.Sampling.{Found, lines, levelAt, samples, characterAt, allAt, allSixteen, Sixteen, sampleAt, stopAt, allLow}
+use Rattle.sampler.specs.Lines.{Line, hears, arrivals}
+use Rattle.sampler.specs.Lines.Line.{pulse, enable, disable}
+use Rattle.sampling.specs.Sampling.{Found, lines, levelAt, samples, characterAt, allAt, allSixteen, Sixteen, sampleAt, stopAt, allLow, flagsFrom}
 
 -- MR1 19: 8 data bits, no parity; with 16X pulses, and with 1X
 abbrev fast : Setting
@@ -37,6 +37,13 @@ at f ls = map (λ (level : Bool). (level, f)) ls
 -- what arrives of a low and these, after a high
 abbrev after : Setting → Found → List Character
 after f ls = arrivals (hunting true) (pulse false f ∷ lines ls)
+
+-- by one that was just enabled; and which of a low and these set break change, after a high
+abbrev enabled : List Line → List Character
+enabled xs = arrivals (hunting false) xs
+
+abbrev flags : Setting → Found → List Bool
+flags f ls = flagsFrom (hunting true) (pulse false f ∷ lines ls)
 
 -- ---- the levels after the low at p, to the first stop sample ----
 
@@ -72,6 +79,8 @@ pub record SamplingExamples : Type 0 where
   -- and not before the stop sample
   pub early : (levelAt (take 151 framed) 7 ≡ false) × (length (take 151 framed) ≡ 151)
   pub not-yet : after fast (take 151 framed) ≡ []
+  -- nor before p+8, where nothing is asked of the level
+  pub earliest : (length (take 5 framed) ≡ 5) × (levelAt (take 5 framed) 7 ≡ true) × (after fast (take 5 framed) ≡ [])
   pub too-short : (levelAt short 7 ≡ true) × (length short ≡ 8)
   pub nothing : after fast short ≡ []
   -- a low stop: the character has the framing mark
@@ -99,6 +108,20 @@ pub record SamplingExamples : Type 0 where
   pub one : after slow once ≡ clean 254 ∷ []
   pub once-broken : eqb (valueOf (samples (levelAt onceBroken) 9)) 0 ≡ true
   pub one-break : after slow onceBroken ≡ breakCharacter ∷ []
+  -- which eight highs at 16X end, and seven do not
+  pub slowly : after slow (onceBroken ++ at fast (false ∷ replicate 8 true ++ false ∷ []) ++ framed) ≡ breakCharacter ∷ clean 85 ∷ []
+  pub not-slowly : after slow (onceBroken ++ at fast (false ∷ replicate 7 true ++ false ∷ []) ++ framed) ≡ breakCharacter ∷ []
+  -- just enabled: lows do not count, until a high
+  pub no-high : enabled (lines (at fast (false ∷ []) ++ framed)) ≡ []
+  pub a-high : enabled (lines (at fast (false ∷ true ∷ false ∷ []) ++ framed)) ≡ clean 85 ∷ []
+  -- a character is dropped by a disable a pulse before its stop sample, not by one after it
+  pub drops : enabled (lines (at fast (true ∷ false ∷ []) ++ take 151 framed) ++ disable ∷ enable ∷ lines (at fast (true ∷ []))) ≡ []
+  pub keeps : enabled (lines (at fast (true ∷ false ∷ []) ++ framed) ++ disable ∷ enable ∷ lines (at fast (true ∷ []))) ≡ clean 85 ∷ []
+  -- break change: at a break, and at its end; at no other character
+  pub unchanged : (flags fast framed ≡ replicate 153 false) × (flags fast unstopped ≡ replicate 153 false)
+  pub seven-highs : (allAt true (at fast (replicate 7 true)) ≡ true) × (allSixteen (at fast (replicate 7 true)) ≡ true)
+  pub changes : flags fast (broken ++ at fast (false ∷ replicate 8 true)) ≡ replicate 152 false ++ true ∷ replicate 8 false ++ true ∷ []
+  pub changes-once : flags slow (onceBroken ++ at slow (false ∷ true ∷ [])) ≡ replicate 9 false ++ true ∷ false ∷ true ∷ []
 
 pub sampling-examples : SamplingExamples
 unfolding bitsOf valueOf oddOnes formatOf parityBitOf parityBits pick stopLengthOf rowOf stopBitsOf Levels.beforeStop bitsBeforeStopOf spread levels frame frameLengthOf frameBitsOf levelOf dataWidthOf samplesOf withSample parityWrongOf characterOf gapOf afterStop lowAt hunted lookedAgain followed waited finished sampled assembled sampleOf hears arrivals
@@ -110,6 +133,7 @@ sampling-examples =
       arrives = refl;
       early = (refl, refl);
       not-yet = refl;
+      earliest = (refl, refl, refl);
       too-short = (refl, refl);
       nothing = refl;
       of-unstopped = record { sixteen = refl; width = omega arith; low = refl; end = refl };
@@ -131,4 +155,14 @@ sampling-examples =
       one = refl;
       once-broken = refl;
       one-break = refl;
+      slowly = refl;
+      not-slowly = refl;
+      no-high = refl;
+      a-high = refl;
+      drops = refl;
+      keeps = refl;
+      unchanged = (refl, refl);
+      seven-highs = (refl, refl);
+      changes = refl;
+      changes-once = refl;
     }

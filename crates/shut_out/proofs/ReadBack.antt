@@ -62,17 +62,17 @@ use Rattle.events.specs.declared.events.Event.{Event}
 use Rattle.events.specs.declared.events.Event.the-variants.{Write, Pins}
 use Rattle.chip.specs.Alone.{handedAfter}
 use Rattle.chip.specs.Sound.{after}
 use Rattle.demands.specs.Chip.{chipOf, over}
 use Rattle.demands.specs.Chip.Channel.{A}
 use Rattle.demands.specs.Told.{programmedThen}
 use Rattle.demands.specs.Clocks.{clocksOf}
 use Rattle.demands.specs.Clocks as inChipClocks
 use Rattle.demands.specs.Counter.{allOf}
 use Rattle.demands.specs.Delivery.{linesAt, linesFrom, fateOf, ledgerFrom, ledger, heldFor, held}
 use Rattle.demands.specs.Sending.{inputsAt, inputsFrom, senderAfter, standing, Starts, startedFrame, keepsSending, pulsesFrom, sentFrom}
 use Rattle.demands.specs.ReadBack.{Listens, undisturbed, carried, formatAfter, ReadBack, ReadsBack}
 use Rattle.demands.specs.Cases.{heard}
-use Rattle.demands.proofs.Wrong.Chips.{chipWith, cutsShort, neverSends}
+use Rattle.shut_out.proofs.Chips.{chipWith, cutsShort, neverSends}
 
 -- ---- the events ----
 

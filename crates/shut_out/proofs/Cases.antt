@@ -1,7 +1,7 @@
 -- Document 01's eleven cases shut wrong chips out, each case one at least, by computing the case. Where a row fails, it does so whatever answers the
 -- frame requests, or the events. Assumes nothing.
 use Prim.Native.Nat.{ℕ}
-use mathlib.Core.Path.{_≡_, refl, sym}
+use mathlib.Core.Path.{_≡_, refl, sym, _∙_}
 use mathlib.Core.Bool.{Bool, true, false, _&&_, true≢false}
 use mathlib.Core.List.{List}
 use native.Mathlib.Omega.{arith}
@@ -59,12 +59,12 @@ use Rattle.request.specs.Request.{firstRefusal, answerOf, requestOf, spaceAfter
 use Rattle.receiver.proofs.Wrong.{dropsArriving, keepsWaiting}
 use Rattle.chip.specs.Lists.{Seen}
 use Rattle.chip.specs.Sound.{after}
 use Rattle.demands.specs.Chip.{Chip, chipOf}
 use Rattle.demands.specs.Demand1.{Request}
 use Rattle.demands.specs.Cases.{Row, holds, allHold, heard, case1, case2, case3, case4sent, case5, case6, case7, case8, case9, case10, case11, sum}
 use Rattle.demands.specs.Cases.{table}
-use Rattle.demands.proofs.Wrong.Chips.{constant, refusesAll, doesNothing, idlesLater, chipWith, startsUnseen, neverTerminal, neverSends}
-use Rattle.demands.proofs.Wrong.Chips.{showsBits, sameFrame, oneMore, neverOdd, eightBits}
+use Rattle.shut_out.proofs.Chips.{constant, refusesAll, doesNothing, idlesLater, chipWith, startsUnseen, neverTerminal, neverSends}
+use Rattle.shut_out.proofs.Chips.{showsBits, sameFrame, oneMore, neverOdd, eightBits}
 
 -- ---- each computed ----
 
@@ -128,26 +128,19 @@ second : (a b : Bool) → (a && b) ≡ true → b ≡ true
 second true b h = h
 second false b h = absurd (true≢false (sym h))
 
--- "one constant answer (case 4)": TxDA is low in the start bit, and high in the next
-one-level : (n : ℕ) (b more : Bool) → ((eqb n 0 && eqb (bit b) 0) && ((eqb n 0 && eqb (bit b) 1) && more)) ≡ true → ⊥
-one-level n b more h =
-    let x : bit b ≡ 0 = eqb-true (bit b) 0 (second (eqb n 0) _ (first (eqb n 0 && eqb (bit b) 0) _ h)) in
-    let y : bit b ≡ 1 =
-    eqb-true (bit b) 1 (second (eqb n 0) _ (first (eqb n 0 && eqb (bit b) 1) more (second (eqb n 0 && eqb (bit b) 0) _ h)))
-    in
-    omega arith
+-- two rows that ask for two numbers in one place
+one-value : (t : Bool) (n x y : ℕ) (more : Bool) → (x ≡ y → ⊥) → ((t && eqb n x) && ((t && eqb n y) && more)) ≡ true → ⊥
+one-value t n x y more differ h =
+    let left : n ≡ x = eqb-true n x (second t _ (first (t && eqb n x) _ h)) in
+    let right : n ≡ y = eqb-true n y (second t _ (first (t && eqb n y) more (second (t && eqb n x) _ h))) in
+    differ (sym left ∙ right)
 
+-- "one constant answer (case 4)": TxDA is low in the start bit, and high in the next
 pub no-constant : (x : Seen) (r : Request) → allHold (constant x) r case4sent ≡ true → ⊥
 unfolding allHold holds
-no-constant x r h = one-level (x .number) (x .lines .txda) _ h
+no-constant x r h = one-value (eqb (x .number) 0) (bit (x .lines .txda)) 0 1 _ (λ e. omega arith) h
 
 -- a request with one answer and one space: in case 3 it would hold 9 highs, and 17
-one-sum : (n : ℕ) (more : Bool) → (eqb n 9 && (eqb n 17 && more)) ≡ true → ⊥
-one-sum n more h =
-    let x : n ≡ 9 = eqb-true n 9 (first (eqb n 9) (eqb n 17 && more) h) in
-    let y : n ≡ 17 = eqb-true n 17 (first (eqb n 17) more (second (eqb n 9) (eqb n 17 && more) h)) in
-    omega arith
-
 pub no-sameFrame : (c : Chip) (a : FrameAnswer) (space : List ℕ) → allHold c (sameFrame a space) case3 ≡ true → ⊥
 unfolding allHold holds
-no-sameFrame c a space h = one-sum (sum space) _ h
+no-sameFrame c a space h = one-value (eqb (a .number) 0) (sum space) 9 17 _ (λ e. omega arith) h

@@ -5,7 +5,7 @@ use mathlib.Core.Path.{_≡_}
 use mathlib.Core.Bool.{Bool, true, false, not, _&&_}
 use mathlib.Core.List.{List, [], _∷_, _++_, map}
 use lib.Dec.{eqb}
-use lib.ListN.{length, getD}
+use lib.ListN.{length, getD, replicate}
 use Rattle.format.specs.Pick.{pick}
 use Rattle.format.specs.Digits.{bit, valueOf}
 use Rattle.format.specs.declared.format.Format.{Format}
@@ -13,8 +13,9 @@ use Rattle.format.specs.Parity.{hasParityOf, parityBitOf}
 use Rattle.character.specs.declared.character.Character.{Character}
 use Rattle.character.specs.Character.{breakCharacter}
 use Rattle.assembly.specs.declared.state.Setting.{Setting}
-use Rattle.sampler.specs.Lines.{Line}
-use Rattle.sampler.specs.Lines.Line.{pulse}
+use Rattle.assembly.specs.declared.state.Sampler.{Sampler}
+use Rattle.sampler.specs.Lines.{Line, hears}
+use Rattle.sampler.specs.Lines.Line.{pulse, enable, disable}
 
 -- a pulse finds a level, and a format and 16X or 1X, which may be others at every pulse: those at p are taken
 abbrev pub Found : Type 0
@@ -93,7 +94,7 @@ pub record Samples (arrive : Assembly) : Type 0 where
   pub sixteen : (f : Setting) (ls rest : Found) → Sixteen f ls → (stopAt f ls ≡ false → rest ≡ [])
       → arrive (pulse false f ∷ lines ls ++ lines rest) ≡ characterAt (f .format) (sampleAt ls) ∷ arrive (lines rest)
   -- and not before it
-  pub before : (f : Setting) (ls : Found) → f .sixteen ≡ true → f .format .width .0 ≤ 8 → levelAt ls 7 ≡ false
+  pub before : (f : Setting) (ls : Found) → f .sixteen ≡ true → f .format .width .0 ≤ 8 → (8 ≤ length ls → levelAt ls 7 ≡ false)
       → length ls < 24 + 16 * beforeStop (f .format) → arrive (pulse false f ∷ lines ls) ≡ []
   -- "else hunt again"
   pub none : (f : Setting) (ls rest : Found) → f .sixteen ≡ true → levelAt ls 7 ≡ true → length ls ≡ 8
@@ -122,3 +123,44 @@ pub record Samples (arrive : Assembly) : Type 0 where
   pub oneBreak : (f g : Setting) (ls lows rest : Found) → f .sixteen ≡ false → f .format .width .0 ≤ 8 → length ls ≡ beforeStop (f .format) + 1
       → eqb (valueOf (samples (levelAt ls) (beforeStop (f .format) + 1))) 0 ≡ true → allAt false lows ≡ true → g .sixteen ≡ false
       → arrive (pulse false f ∷ lines ls ++ lines lows ++ pulse true g ∷ lines rest) ≡ breakCharacter ∷ arrive (lines rest)
+  -- "a break's end go[es] by CSR as it stands": a 1X break, and 8 highs at 16X
+  pub slowly : (f : Setting) (ls lows highs rest : Found) → f .sixteen ≡ false → f .format .width .0 ≤ 8 → length ls ≡ beforeStop (f .format) + 1
+      → eqb (valueOf (samples (levelAt ls) (beforeStop (f .format) + 1))) 0 ≡ true → allAt false lows ≡ true → allAt true highs ≡ true
+      → allSixteen highs ≡ true → length highs ≡ 8
+      → arrive (pulse false f ∷ lines ls ++ lines lows ++ lines highs ++ lines rest) ≡ breakCharacter ∷ arrive (lines rest)
+
+-- ---- enable and disable ----
+
+-- of what is heard after a high, and of what is heard by one that was just enabled
+pub record Enables (idle enabled : Assembly) : Type 0 where
+  -- "A receiver just enabled must sample a high before a low counts"
+  pub none : (lows : Found) → allAt false lows ≡ true → enabled (lines lows) ≡ []
+  pub waits : (g : Setting) (lows rest : Found) → allAt false lows ≡ true → enabled (lines lows ++ pulse true g ∷ lines rest) ≡ idle (lines rest)
+  -- "Disable drops the character being put together and ends the wait for a break's end, no more."
+  pub drops : (xs ys : List Line) → enabled (xs ++ disable ∷ ys) ≡ enabled xs ++ enabled ys
+  pub enables : (xs ys : List Line) → enabled (xs ++ enable ∷ ys) ≡ enabled xs ++ enabled ys
+
+-- ---- break change ----
+
+-- which of the lines that are heard after a high set it
+abbrev pub Flags : Type 0
+Flags = List Line → List Bool
+
+pub record BreakChange (flags : Flags) : Type 0 where
+  -- a character that is no break does not
+  pub character : (f : Setting) (ls : Found) → Sixteen f ls → allLow f ls ≡ false → flags (pulse false f ∷ lines ls) ≡ replicate (1 + length ls) false
+  -- "All bits, parity and stop low: .. break change set; hunting waits for 8 high pulses in a row, then break change is set again."
+  pub sixteen : (f g : Setting) (ls lows highs : Found) → Sixteen f ls → allLow f ls ≡ true → allAt false lows ≡ true → allAt true highs ≡ true
+      → allSixteen highs ≡ true → length highs ≡ 7 → g .sixteen ≡ true
+      → flags (pulse false f ∷ lines ls ++ lines lows ++ lines highs ++ pulse true g ∷ [])
+      ≡ replicate (length ls) false ++ true ∷ replicate (length lows + 7) false ++ true ∷ []
+  -- "one high ends a break"
+  pub one : (f g : Setting) (ls lows : Found) → f .sixteen ≡ false → f .format .width .0 ≤ 8 → length ls ≡ beforeStop (f .format) + 1
+      → eqb (valueOf (samples (levelAt ls) (beforeStop (f .format) + 1))) 0 ≡ true → allAt false lows ≡ true → g .sixteen ≡ false
+      → flags (pulse false f ∷ lines ls ++ lines lows ++ pulse true g ∷ [])
+      ≡ replicate (length ls) false ++ true ∷ replicate (length lows) false ++ true ∷ []
+
+-- as a sampler run alone tells it
+abbrev pub flagsFrom : Sampler → List Line → List Bool
+flagsFrom s [] = []
+flagsFrom s (x ∷ xs) = hears s x .change ∷ flagsFrom (hears s x .next) xs

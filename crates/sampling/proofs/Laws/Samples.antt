@@ -22,7 +22,7 @@ use Rattle.assembly.specs.Assembly.{dataWidthOf, samplesOf, dataOf, parityWrong
 use Rattle.assembly.proofs.Laws.Assembly.{width-whole}
 use Rattle.sampler.specs.Lines.{listOf}
 use Rattle.sampler.specs.Sampler.{arrived, broke, finished}
-use Rattle.demands.specs.Sampling.{samples, beforeStop, byteAt, parityWrong, characterAt}
+use Rattle.sampling.specs.Sampling.{samples, beforeStop, byteAt, parityWrong, characterAt}
 
 -- ---- the number that samples make ----
 
@@ -92,7 +92,7 @@ parity-at f s h = rw (data-at f s h, width-whole f h) (go (hasParityOf f))
 -- ---- the character ----
 
 -- all are low where those before the stop are and the stop is
-all-low : (s : ℕ → Bool) (n : ℕ) (stop : Bool) → s n ≡ stop → eqb (valueOf (samples s (n + 1))) 0 ≡ pick stop false (eqb (valueOf (samples s n)) 0)
+pub all-low : (s : ℕ → Bool) (n : ℕ) (stop : Bool) → s n ≡ stop → eqb (valueOf (samples s (n + 1))) 0 ≡ pick stop false (eqb (valueOf (samples s n)) 0)
 unfolding pick
 all-low s n true e =
     let p : 0 < 2 ^ n = one-le-pow n 2 (omega arith) in

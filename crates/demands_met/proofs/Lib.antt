@@ -1,0 +1,4 @@
+-- What meets the hypotheses of the demands, computed; and what is sent over a wire and read back.
+pub mod Examples
+pub mod MoreExamples
+pub mod Wired

@@ -1,0 +1,180 @@
+-- More of what the statements suppose is met by some events, by computing the definitions, and with what they then say of them: what leaves the
+-- counter/timer, its toggle as a clock, the 1X transmitter clocks, and CTS. Assumes nothing.
+use Prim.Native.Nat.{ℕ, zero, suc}
+use mathlib.Core.Path.{_≡_, refl}
+use mathlib.Core.Bool.{true, false}
+use mathlib.Core.List.{List, [], _∷_, _++_}
+use lib.Dec.{eqb}
+use lib.ListN.{replicate}
+use Rattle.events.specs.declared.events.Event.{Event}
+use Rattle.events.specs.declared.events.Event.the-variants.{Read, Write, Pins, Tick}
+use Rattle.format.specs.Format.{formatOf}
+use Rattle.outputs.specs.Outputs.{drivenBy, drivenOp3, opLevels}
+use Rattle.commands.specs.Commands.{transmitterEffect, receiverEffect, transmitterEnabling, receiverEnabling, sideCommanded, commandFeed}
+use Rattle.clocks.specs.Pulses.Side.{transmits}
+use Rattle.counting.specs.Counting.{modeOf, isTimer, counterPulsed, timerPulsed, pulsedBy}
+use Rattle.format.specs.Digits.{bitsOf, valueOf, oddOnes}
+use Rattle.format.specs.Parity.{parityBitOf, parityBits}
+use Rattle.format.specs.Pick.{pick}
+use Rattle.format.specs.Stop.{stopLengthOf, rowOf, stopBitsOf}
+use Rattle.frame.specs.Levels.{beforeStop, bitsBeforeStopOf, spread, levels, frame, frameLengthOf, frameBitsOf, levelOf}
+use Rattle.assembly.specs.Assembly.{dataWidthOf, samplesOf, withSample, parityWrongOf, characterOf}
+use Rattle.assembly.specs.State.{gapOf, afterStop}
+use Rattle.hunting.specs.Hunting.{lowAt, hunted, lookedAgain, followed, waited}
+use Rattle.sampler.specs.Sampler.{finished, sampled, assembled, sampleOf}
+use Rattle.queue.specs.Queue.{heldOf, putOf, withoutWaitingOf, tookOf}
+use Rattle.arrivals.specs.Arrivals.{oldestMarks, enteredOf, arrivedOf}
+use Rattle.receiver_commands.specs.Commands.{effectOf, enablingOf}
+use Rattle.receiver_status.specs.Status.{shownMarks}
+use Rattle.receiver.specs.Receiver.{oldestRead, readOf, fedOf}
+use Rattle.sending.specs.Sending.{begunOf, bitOfPulse, sentOnOf, heldHigh}
+use Rattle.transmitter.specs.Commands.{writtenOf, breakEnded, droppedOf, breakAsked}
+use Rattle.transmitter.specs.Transmitter.{afterInput}
+use Rattle.transmitter.specs.Frames as Frames
+use Rattle.transmitter.specs.Frames.{free}
+use Rattle.dividers.specs.Divider.{dividedOf, sixteenthOf}
+use Rattle.dividers.specs.Rates.{periodOf}
+use Rattle.clocks.specs.Channel.{restartedOnChange, tickedOf, sideOf, transmitter1x}
+use Rattle.timer.specs.Timer.{tickedBy, edgedBy, stoppedOf, modeChanged}
+use Rattle.bytes.specs.Bytes.{hasBit, weightOf, byteOf}
+use Rattle.inputs.specs.Inputs.{movedOf, pinsOfA, pinsOfB}
+use Rattle.side.specs.Side.{freshSide, modeRegister, modeNotModelled, modeWritten, csrWritten, setChanged, bufferWritten}
+use Rattle.side_clocks.specs.Clocking.{transmitterPulsed, lineOf, sideClocked}
+use Rattle.shown.specs.Shown.{receivedOf, shownOf}
+use Rattle.front.specs.Front.{frontAt}
+use Rattle.front_clocks.specs.Clocking.{countedOf, clockedWith, levelsMoved}
+use Rattle.writes.specs.Writes.{sideWritten, acrWritten, sharedWritten, registerWritten}
+use Rattle.reads.specs.Reads.{sideRead, sharedRead, registerRead, frontData}
+use Rattle.events.specs.Refusals.{registerAbove15, forbiddenRead, forbiddenCommand}
+use Rattle.front_events.specs.FrontEvents.{frontStepped}
+use Rattle.front_events.specs.NotModelled.{writeNotModelled, settingNotModelled}
+use Rattle.answers.specs.Answers.{assertedOf, timerLevel, linesOf, registerData, eventData}
+use Rattle.device.specs.Device.{freshDevice}
+use Rattle.refusals.specs.Refusals.{acknowledgedUnasserted, firstOf}
+use Rattle.duart.specs.Duart.{numberOf, refusalLines, stepOf}
+use Rattle.arrivals.specs.Arrivals as inArrivals
+use Rattle.timer.specs.Timer as inTimer
+use Rattle.sending.specs.Sending as inSending
+use Rattle.duart.specs.Duart as inDuart
+use Rattle.clocks.specs.Channel as inClocks
+use Rattle.front_clocks.specs.Clocking as inFrontClocks
+use Rattle.chip.specs.Alone.{handedAfter}
+use Rattle.chip.specs.Sound.{after}
+use Rattle.demands.specs.Chip.{Chip, chipOf, over, andThen, shows, statusBit}
+use Rattle.demands.specs.Chip.Channel.{A}
+use Rattle.demands.specs.Told.{levelsAfter, programmed, programmedThen}
+use Rattle.demands.specs.Clocks as inDemands
+use Rattle.demands.specs.Clocks.{clocksOf, pulsedAfter}
+use Rattle.demands.specs.Registers.{acrAfter}
+use Rattle.demands.specs.Counter.{countShown}
+use Rattle.demands.specs.Counted.{oneAfter, timerThen, timerFrom, timerAfter}
+use Rattle.demands.specs.Pulses.{clocks, codeAfter, sentSince, sentAfter}
+use Rattle.demands.specs.Sending.{inputsAt, inputsFrom, senderAfter}
+
+-- the chip that is proved
+abbrev c : Chip
+c = chipOf stepOf
+
+-- ---- the events ----
+
+abbrev ticks : ℕ → List Event
+ticks n = replicate n Tick
+
+-- a counter on ticks/16, preload 3, has reached its terminal
+abbrev rung : List Event
+rung = Write 4 48 ∷ Write 6 0 ∷ Write 7 3 ∷ Read 14 ∷ ticks 48
+
+-- code 13, and a timer on ticks that is loaded with 1; a preload of 2 is written later
+abbrev turned : ℕ → List Event
+turned n = Write 1 221 ∷ Write 7 1 ∷ Write 4 96 ∷ Write 7 2 ∷ ticks n
+
+-- IP3 falls, with IP0 high and with IP0 low; and it falls and rises so often
+abbrev falling : Event
+falling = Pins 247
+
+abbrev fallingClear : Event
+fallingClear = Pins 246
+
+abbrev falls : ℕ → List Event
+falls zero = []
+falls (suc n) = falling ∷ Pins 255 ∷ falls n
+
+-- both sides of channel A on one code
+abbrev coded : ℕ → List Event
+coded csr = Write 1 csr ∷ []
+
+-- transmitter A at 1X, with CTS chosen, and 85 to send
+abbrev held : List Event
+held = Write 0 19 ∷ Write 0 23 ∷ Write 1 255 ∷ Write 2 4 ∷ Write 3 85 ∷ []
+
+-- ---- Counter ----
+
+pub record Left : Type 0 where
+  -- the bit is set, and stays: at a start, and at a write of ACR to another mode
+  pub set : hasBit (shows c 255 rung 5) 3 ≡ true
+  pub starts : hasBit (shows c 255 (andThen rung (Read 14)) 5) 3 ≡ true
+  pub changes : hasBit (shows c 255 (andThen rung (Write 4 96)) 5) 3 ≡ true
+  -- a write of ACR that leaves the mode, and of a preload: the count of 0 stays
+  pub same : eqb (modeOf (acrAfter rung)) (modeOf 176) ≡ true
+  pub kept : (countShown c 255 (andThen rung (Write 4 176)) ≡ 0) × (countShown c 255 (andThen rung (Write 7 5)) ≡ 0)
+
+-- ---- Pulses, Ones ----
+
+pub record Turned : Type 0 where
+  -- the output is low from the first tick, and high again from the third
+  pub code : codeAfter transmits A (turned 2) ≡ 13
+  pub mode : isTimer (modeOf (acrAfter (turned 2))) ≡ true
+  pub low : timerAfter 255 (turned 2) .output ≡ false
+  pub high : timerAfter 255 (turned 3) .output ≡ true
+  pub pulse : pulsedAfter transmits A 255 (turned 2) Tick ≡ true
+
+pub record OneClock : Type 0 where
+  -- 16X: the 16th pulse since the write of CSR, and not the 15th
+  pub sixteen : codeAfter transmits A (coded 238) ≡ 14
+  pub sent : sentAfter pulsedAfter A 255 (coded 238 ++ falls 3 ++ coded 238 ++ falls 15) ≡ 15
+  pub at-16 : oneAfter A 255 (coded 238 ++ falls 3 ++ coded 238 ++ falls 15) falling ≡ true
+  pub at-15 : oneAfter A 255 (coded 238 ++ falls 3 ++ coded 238 ++ falls 14) falling ≡ false
+  -- 1X: each
+  pub each : codeAfter transmits A (coded 255) ≡ 15
+  pub first : oneAfter A 255 (coded 255) falling ≡ true
+
+-- ---- Sends ----
+
+pub record Waited : Type 0 where
+  -- CTS is chosen and high at a pulse: what is held stays
+  pub chosen : hasBit (programmed A held .mr2) 4 ≡ true
+  pub high : hasBit (levelsAfter 255 (andThen held falling)) 0 ≡ true
+  pub pulse : (clocks falling ≡ true) × (pulsedAfter transmits A 255 held falling ≡ true)
+  pub stays : (statusBit c 255 A held 2 ≡ false) × (statusBit c 255 A (andThen held falling) 2 ≡ false)
+  -- and low: the transmitter is idle and enabled, and what is held goes
+  pub low : hasBit (levelsAfter 255 (andThen held fallingClear)) 0 ≡ false
+  pub clear : pulsedAfter transmits A 255 held fallingClear ≡ true
+  pub idle : (free (senderAfter 255 A held) ≡ true) × (programmed A held .transmits ≡ true)
+  pub goes : statusBit c 255 A (andThen held fallingClear) 2 ≡ true
+
+-- ---- by computing ----
+
+pub record MoreExamples : Type 0 where
+  pub left : Left
+  pub turned : Turned
+  pub oneClock : OneClock
+  pub waited : Waited
+
+pub more-examples : MoreExamples
+unfolding bitsOf valueOf oddOnes formatOf parityBitOf parityBits pick stopLengthOf rowOf stopBitsOf beforeStop bitsBeforeStopOf spread levels frame frameLengthOf frameBitsOf levelOf dataWidthOf samplesOf withSample parityWrongOf characterOf gapOf afterStop lowAt hunted lookedAgain followed waited finished sampled assembled sampleOf heldOf putOf withoutWaitingOf tookOf oldestMarks inArrivals.startedOf inTimer.startedOf enteredOf arrivedOf inArrivals.pulsedOf inSending.pulsedOf effectOf enablingOf shownMarks oldestRead readOf fedOf inSending.takenOf inDuart.takenOf begunOf bitOfPulse sentOnOf heldHigh writtenOf breakEnded droppedOf breakAsked afterInput dividedOf sixteenthOf periodOf restartedOnChange tickedOf sideOf transmitter1x inClocks.clockedOf inFrontClocks.clockedOf counterPulsed timerPulsed pulsedBy tickedBy edgedBy stoppedOf modeChanged hasBit weightOf byteOf movedOf pinsOfA pinsOfB drivenBy drivenOp3 opLevels freshSide modeRegister modeNotModelled modeWritten csrWritten setChanged bufferWritten transmitterPulsed lineOf sideClocked transmitterEffect receiverEffect transmitterEnabling receiverEnabling sideCommanded commandFeed receivedOf shownOf frontAt countedOf clockedWith levelsMoved sideWritten acrWritten sharedWritten registerWritten sideRead sharedRead registerRead frontData registerAbove15 forbiddenRead forbiddenCommand frontStepped writeNotModelled settingNotModelled assertedOf timerLevel linesOf registerData eventData freshDevice acknowledgedUnasserted firstOf numberOf refusalLines stepOf after chipOf over handedAfter programmedThen clocksOf inDemands.pulsedBy timerThen timerFrom sentSince oneAfter inputsAt inputsFrom Frames.after
+more-examples =
+    record {
+      left = record { set = refl; starts = refl; changes = refl; same = refl; kept = (refl, refl) };
+      turned = record { code = refl; mode = refl; low = refl; high = refl; pulse = refl };
+      oneClock = record { sixteen = refl; sent = refl; at-16 = refl; at-15 = refl; each = refl; first = refl };
+      waited = record {
+        chosen = refl;
+        high = refl;
+        pulse = (refl, refl);
+        stays = (refl, refl);
+        low = refl;
+        clear = refl;
+        idle = (refl, refl);
+        goes = refl;
+      };
+    }

@@ -1,0 +1,4 @@
+-- The laws that the sampling rule goes by, a file a topic. Assumes nothing.
+pub mod Samples
+pub mod Stopped
+pub mod Characters

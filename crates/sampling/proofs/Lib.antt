@@ -1,0 +1,7 @@
+-- The sampling rule, proved of the sampler; what meets its hypotheses; wrong samplers that it shuts out.
+pub mod Laws
+pub mod Sampling
+pub mod Enabling
+pub mod BreakChange
+pub mod Examples
+pub mod Wrong

@@ -1,0 +1,2 @@
+-- The sampling rule, stated of any way to put characters together from what is heard.
+pub mod Sampling
