@@ -1,4 +1,4 @@
--- "Eleven cases, one proof. One table, one statement, checked by the definitions": a row is a set-up, the events, what public answer to look at, and what
+-- Document 01's eleven cases: "One table, one statement, checked by the definitions": a row is a set-up, the events, what public answer to look at, and what
 -- it must be. Cases 3 to 6 look at what the frame request answers and writes. Assumes nothing.
 use Prim.Native.Nat.{ℕ, zero, suc, _+_, _*_}
 use mathlib.Core.Path.{_≡_}

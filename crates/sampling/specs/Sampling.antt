@@ -123,7 +123,7 @@ pub record Samples (arrive : Assembly) : Type 0 where
   pub oneBreak : (f g : Setting) (ls lows rest : Found) → f .sixteen ≡ false → f .format .width .0 ≤ 8 → length ls ≡ beforeStop (f .format) + 1
       → eqb (valueOf (samples (levelAt ls) (beforeStop (f .format) + 1))) 0 ≡ true → allAt false lows ≡ true → g .sixteen ≡ false
       → arrive (pulse false f ∷ lines ls ++ lines lows ++ pulse true g ∷ lines rest) ≡ breakCharacter ∷ arrive (lines rest)
-  -- "a break's end go[es] by CSR as it stands": a 1X break, and 8 highs at 16X
+  -- "hunting and a break's end go by CSR as it stands": a 1X break, and 8 highs at 16X
   pub slowly : (f : Setting) (ls lows highs rest : Found) → f .sixteen ≡ false → f .format .width .0 ≤ 8 → length ls ≡ beforeStop (f .format) + 1
       → eqb (valueOf (samples (levelAt ls) (beforeStop (f .format) + 1))) 0 ≡ true → allAt false lows ≡ true → allAt true highs ≡ true
       → allSixteen highs ≡ true → length highs ≡ 8

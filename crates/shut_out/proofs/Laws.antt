@@ -85,7 +85,7 @@ use Rattle.shut_out.proofs.Chips.{resetKeepsVector, changed, isWriteOf,
 
 -- ---- more that are wrong ----
 
--- 3: "read of 2 or 10": a read of 2 is accepted
+-- 3: "read of register 2 or 10": a read of 2 is accepted
 abbrev readsCommand : Chip
 readsCommand = changed (λ e x. pick (isReadOf 2 e) (record { number = 0; byte = x .byte; lines = x .lines }) x)
 
