@@ -22,10 +22,10 @@ use Rattle.events.specs.declared.events.Event.{Event}
 use Rattle.events.specs.declared.events.Event.the-variants.{Read, Write}
 use Rattle.answers.specs.Answers.{timerLevel}
 use Rattle.duart.specs.Duart.{stepOf}
-use Rattle.demands.specs.Chip.{over, chipOf, andThen, shows, linesAfter}
+use Rattle.demands.specs.Chip.{over, chipOf, andThen, shows, linesAfter, allOf}
 use Rattle.demands.specs.Clocks.{frontThen, frontAfter}
 use Rattle.demands.specs.Registers.{opcrThen, acrAfter}
-use Rattle.demands.specs.Counter.{preloadAfter, leavesCounter, allOf, loads, since, Loaded, countShown, Counter}
+use Rattle.demands.specs.Counter.{preloadAfter, leavesCounter, loads, since, Loaded, countShown, Counter}
 use Rattle.demands.proofs.Laws.Bits.{bit-3}
 use Rattle.demands.proofs.Laws.Run.{runAt, run-front, run-sound, front-byte}
 use Rattle.demands.proofs.Laws.Fronts.{frontWritten, front-read, front-written}

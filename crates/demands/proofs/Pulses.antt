@@ -26,10 +26,10 @@ use Rattle.front.specs.Front.{frontAt}
 use Rattle.front_clocks.specs.Clocking.{countedOf}
 use Rattle.events.specs.declared.events.Event.{Event}
 use Rattle.events.specs.declared.events.Event.the-variants.{ChipReset, Read, Write, Acknowledge, Pins, Tick}
-use Rattle.demands.specs.Chip.{Channel, andThen}
+use Rattle.demands.specs.Chip.{Channel, andThen, allOf}
 use Rattle.demands.specs.Told.{Programmed, levelsAfter}
 use Rattle.demands.specs.Registers.{acrAfter}
-use Rattle.demands.specs.Counter.{preloadAfter, Elapsed, elapsedThen, pulsesAfter, leavesCounter, allOf, since, Loaded}
+use Rattle.demands.specs.Counter.{preloadAfter, Elapsed, elapsedThen, pulsesAfter, leavesCounter, since, Loaded}
 use Rattle.demands.specs.Clocks.{frontThen, frontAfter, sideOf, pulsedBy, pulsedAfter}
 use Rattle.demands.specs.Counted.{timerAfter}
 use Rattle.demands.specs.Pulses.{ticksAfter, isTick, clocks, edgeBy, codeAfter, Pulses}

@@ -32,10 +32,9 @@ use Rattle.events.specs.declared.events.Event.{Event}
 use Rattle.events.specs.declared.events.Event.the-variants.{ChipReset, Read, Write, Acknowledge, Pins, Tick}
 use Rattle.duart.specs.Duart.{stepOf}
 use Rattle.chip.specs.Reset.{resetAt}
-use Rattle.demands.specs.Chip.{Channel, chipOf, registerOf}
+use Rattle.demands.specs.Chip.{Channel, chipOf, registerOf, allOf}
 use Rattle.demands.specs.Told.{programmed}
 use Rattle.demands.specs.Clocks.{frontThen, frontAfter}
-use Rattle.demands.specs.Counter.{allOf}
 use Rattle.demands.specs.Delivery.{commands, linesFrom, ledger}
 use Rattle.demands.specs.Sending.{senderAfter, standing, Starts, startedFrame, keepsSending, pulsesFrom, sentFrom}
 use Rattle.demands.specs.ReadBack.{Listens, undisturbed, carried, formatAfter, ReadBack, ReadsBack}

@@ -22,10 +22,9 @@ use Rattle.bytes.specs.Bytes.{hasBit}
 use Rattle.events.specs.declared.events.Event.{Event}
 use Rattle.events.specs.declared.events.Event.the-variants.{ChipReset, Read, Write, Acknowledge, Pins, Tick}
 use Rattle.duart.specs.Duart.{stepOf}
-use Rattle.demands.specs.Chip.{Channel, ofChannel, chipOf, andThen, statusBit}
+use Rattle.demands.specs.Chip.{Channel, ofChannel, chipOf, andThen, statusBit, allOf}
 use Rattle.demands.specs.Told.{levelsAfter, unprogrammed, programmedThen, programmed}
 use Rattle.demands.specs.Clocks.{pulsedBy, pulsedAfter}
-use Rattle.demands.specs.Counter.{allOf}
 use Rattle.demands.specs.Pulses.{clocks}
 use Rattle.demands.specs.Sending.{standing, inputsAt, inputsFrom, senderAfter, txdAfter, Starts, startedFrame, keepsSending, pulsesFrom, sentFrom, Sends}
 use Rattle.demands.proofs.Laws.Told.{over-then, pulsed-enabled}

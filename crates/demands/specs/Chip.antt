@@ -1,6 +1,6 @@
 -- A chip as its program meets it, and where the statements look. Assumes nothing.
 use Prim.Native.Nat.{ℕ, _+_}
-use mathlib.Core.Bool.{Bool}
+use mathlib.Core.Bool.{Bool, true, _&&_}
 use mathlib.Core.List.{List, [], _∷_, _++_}
 use Rattle.bytes.specs.Bytes.{hasBit}
 use Rattle.events.specs.declared.events.Event.{Event}
@@ -27,6 +27,11 @@ andThen es e = es ++ (e ∷ [])
 unfoldable pub over : {X : Type 0} → (X → Event → X) → X → List Event → X
 over then x [] = x
 over then x (e ∷ es) = over then (then x e) es
+
+-- all of them are of a kind
+abbrev pub allOf : (Event → Bool) → List Event → Bool
+allOf is [] = true
+allOf is (e ∷ es) = is e && allOf is es
 
 -- ---- the channels ----
 

@@ -13,7 +13,7 @@ use Rattle.counting.specs.Counting.{modeOf, isTimer, tickPulses, edgePulses}
 use Rattle.timer.specs.Counts.{pulsesOf}
 use Rattle.events.specs.declared.events.Event.{Event}
 use Rattle.events.specs.declared.events.Event.the-variants.{ChipReset, Read, Write, Acknowledge, Pins, Tick}
-use Rattle.demands.specs.Chip.{Chip, andThen, over, shows, linesAfter}
+use Rattle.demands.specs.Chip.{Chip, andThen, over, allOf, shows, linesAfter}
 use Rattle.demands.specs.Registers.{opcrThen, acrAfter}
 
 -- "6, 7 .. preload high, low"
@@ -74,10 +74,6 @@ leavesCounter (Write n byte) = not (eqb n 4) && (not (eqb n 6) && not (eqb n 7))
 leavesCounter Acknowledge = true
 leavesCounter (Pins levels) = true
 leavesCounter Tick = true
-
-abbrev pub allOf : (Event → Bool) → List Event → Bool
-allOf is [] = true
-allOf is (e ∷ es) = is e && allOf is es
 
 -- What loads it, after these events, in a mode: a start, or a write of ACR that changes bits 6-4 to it.
 abbrev pub loads : ℕ → List Event → Event → Bool

@@ -19,9 +19,8 @@ use Rattle.receiver.specs.ReadBack.{Idle}
 use Rattle.bytes.specs.Bytes.{hasBit}
 use Rattle.events.specs.declared.events.Event.{Event}
 use Rattle.events.specs.declared.events.Event.the-variants.{ChipReset, Read, Write, Acknowledge, Pins, Tick}
-use Rattle.demands.specs.Chip.{Chip, Channel, ofChannel, registerOf, shows, statusBit}
+use Rattle.demands.specs.Chip.{Chip, Channel, ofChannel, registerOf, shows, statusBit, allOf}
 use Rattle.demands.specs.Told.{programmed}
-use Rattle.demands.specs.Counter.{allOf}
 use Rattle.demands.specs.Delivery.{linesFrom, ledger, held}
 use Rattle.demands.specs.Sending.{senderAfter, standing, Starts, startedFrame, keepsSending, pulsesFrom, sentFrom}
 

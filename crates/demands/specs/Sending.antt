@@ -23,10 +23,9 @@ use Rattle.bytes.specs.Bytes.{hasBit}
 use Rattle.answers.specs.declared.answers.Lines.{Lines}
 use Rattle.events.specs.declared.events.Event.{Event}
 use Rattle.events.specs.declared.events.Event.the-variants.{ChipReset, Read, Write, Acknowledge, Pins, Tick}
-use Rattle.demands.specs.Chip.{Chip, Channel, ofChannel, registerOf, andThen, statusBit, linesAfter}
+use Rattle.demands.specs.Chip.{Chip, Channel, ofChannel, registerOf, andThen, statusBit, linesAfter, allOf}
 use Rattle.demands.specs.Told.{Programmed, levelsAfter, programmed}
 use Rattle.demands.specs.Clocks.{pulsedAfter}
-use Rattle.demands.specs.Counter.{allOf}
 use Rattle.demands.specs.Pulses.{clocks}
 use Rattle.demands.specs.Delivery.{commands}
 

@@ -71,14 +71,14 @@ use Rattle.chip.specs.Sound.{after}
 use Rattle.chip.specs.Table.{row, First}
 use Rattle.chip.proofs.Sound.{fresh-sound}
 use Rattle.chip.proofs.Table.{table}
-use Rattle.demands.specs.Chip.{Chip, chipOf, over, andThen, shows, statusBit, linesAfter}
+use Rattle.demands.specs.Chip.{Chip, chipOf, over, andThen, shows, statusBit, linesAfter, allOf}
 use Rattle.demands.specs.Chip.Channel.{A}
 use Rattle.demands.specs.Told.{programmed, programmedThen}
 use Rattle.demands.specs.Clocks as inDemands
 use Rattle.demands.specs.Clocks.{clocksOf, pulsedAfter}
 use Rattle.demands.specs.Demand1.{requestFrame}
 use Rattle.demands.specs.Registers.{ivrAfter, acrAfter, opcrThen, readsNothing}
-use Rattle.demands.specs.Counter.{elapsedThen, allOf, leavesCounter, loads, since, Loaded, countShown}
+use Rattle.demands.specs.Counter.{elapsedThen, leavesCounter, loads, since, Loaded, countShown}
 use Rattle.demands.specs.Pulses.{ticksAfter, clocks, codeAfter}
 use Rattle.demands.specs.Cases.{heard, fiveArrive}
 use Rattle.demands.specs.Delivery.{ledger, readFrom, held}

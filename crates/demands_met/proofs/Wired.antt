@@ -66,12 +66,11 @@ use Rattle.clocks.specs.Channel as inClocks
 use Rattle.front_clocks.specs.Clocking as inFrontClocks
 use Rattle.chip.specs.Alone.{handedAfter}
 use Rattle.chip.specs.Sound.{after}
-use Rattle.demands.specs.Chip.{Chip, Channel, chipOf, andThen, over, statusBit}
+use Rattle.demands.specs.Chip.{Chip, Channel, chipOf, andThen, over, statusBit, allOf}
 use Rattle.demands.specs.Chip.Channel.{A, B}
 use Rattle.demands.specs.Told.{programmedThen}
 use Rattle.demands.specs.Clocks as inDemands
 use Rattle.demands.specs.Clocks.{frontThen, frontAfter, clocksOf, pulsedAfter}
-use Rattle.demands.specs.Counter.{allOf}
 use Rattle.demands.specs.Cases.{heard, listening, arrives}
 use Rattle.demands.specs.Delivery.{linesAt, linesFrom, fateOf, ledgerFrom, held}
 use Rattle.demands.specs.Sending.{standing, inputsAt, inputsFrom, senderAfter, Starts, startedFrame, keepsSending, pulsesFrom, sentFrom}

@@ -23,10 +23,10 @@ use Rattle.front.specs.Front.{frontAt}
 use Rattle.front_clocks.specs.Clocking.{countedOf}
 use Rattle.events.specs.declared.events.Event.{Event}
 use Rattle.events.specs.declared.events.Event.the-variants.{ChipReset, Read, Write, Acknowledge, Pins, Tick}
-use Rattle.demands.specs.Chip.{over}
+use Rattle.demands.specs.Chip.{over, allOf}
 use Rattle.demands.specs.Told.{lastWritten}
 use Rattle.demands.specs.Clocks.{frontThen, frontAfter}
-use Rattle.demands.specs.Counter.{Elapsed, elapsedThen, leavesCounter, allOf}
+use Rattle.demands.specs.Counter.{Elapsed, elapsedThen, leavesCounter}
 use Rattle.demands.proofs.Laws.Fronts.{frontRead, frontWritten, frontMoved, frontNext, front-next}
 use Rattle.demands.proofs.Laws.Told.{acr-next}
 use Rattle.demands.proofs.Laws.Timers.{Phased, pinsCounted, phased-next, phased-over}

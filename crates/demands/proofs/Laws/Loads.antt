@@ -21,9 +21,9 @@ use Rattle.front.specs.declared.front.Front.{Front}
 use Rattle.front.specs.Front.{frontAt}
 use Rattle.events.specs.declared.events.Event.{Event}
 use Rattle.events.specs.declared.events.Event.the-variants.{ChipReset, Read, Write, Acknowledge, Pins, Tick}
-use Rattle.demands.specs.Chip.{over}
+use Rattle.demands.specs.Chip.{over, allOf}
 use Rattle.demands.specs.Clocks.{frontThen, frontAfter}
-use Rattle.demands.specs.Counter.{Elapsed, elapsedThen, leavesCounter, allOf, pulsesAfter, loads, Loaded}
+use Rattle.demands.specs.Counter.{Elapsed, elapsedThen, leavesCounter, pulsesAfter, loads, Loaded}
 use Rattle.demands.proofs.Laws.Fronts.{front-read, front-written}
 use Rattle.demands.proofs.Laws.Told.{pick-with, over-append, acr-next, acr-told}
 use Rattle.demands.proofs.Laws.Timers.{Phased, phased-next}

@@ -29,11 +29,10 @@ use Rattle.events.specs.declared.events.Event.{Event}
 use Rattle.events.specs.declared.events.Event.the-variants.{ChipReset, Read, Write, Acknowledge, Pins, Tick}
 use Rattle.answers.specs.Answers.{linesOf}
 use Rattle.duart.specs.Duart.{stepOf}
-use Rattle.demands.specs.Chip.{Channel, chipOf, registerOf, andThen, over}
+use Rattle.demands.specs.Chip.{Channel, chipOf, registerOf, andThen, over, allOf}
 use Rattle.demands.specs.Chip.Channel.{A, B}
 use Rattle.demands.specs.Told.{levelsThen}
 use Rattle.demands.specs.Clocks.{frontThen, frontAfter, sideOf, clocksOf, pulsedBy, pulsedAfter}
-use Rattle.demands.specs.Counter.{allOf}
 use Rattle.demands.specs.Delivery.{commands}
 use Rattle.demands.specs.Sending.{standing, effectInputs, enablingInputs, inputsAt, inputsFrom, senderAfter, txdAfter, keepsSending, pulsesFrom, sentFrom}
 use Rattle.demands.proofs.Laws.Run.{run-front}

@@ -19,10 +19,10 @@ use Rattle.front.specs.Front.{withTimer}
 use Rattle.front_clocks.specs.Clocking.{countedOf}
 use Rattle.events.specs.declared.events.Event.{Event}
 use Rattle.events.specs.declared.events.Event.the-variants.{ChipReset, Read, Write, Acknowledge, Pins, Tick}
-use Rattle.demands.specs.Chip.{Channel, over}
+use Rattle.demands.specs.Chip.{Channel, over, allOf}
 use Rattle.demands.specs.Chip.Channel.{A, B}
 use Rattle.demands.specs.Clocks.{frontThen, clocksOf}
-use Rattle.demands.specs.Counter.{leavesCounter, allOf}
+use Rattle.demands.specs.Counter.{leavesCounter}
 use Rattle.demands.proofs.Laws.Fronts.{frontMoved, frontClocked, frontNext, front-next, front-read, front-written}
 use Rattle.demands.proofs.Laws.Counting.{read-left, written-left, acr-left}
 
