@@ -2,7 +2,7 @@
 -- and a stop leaves a timer as it is but for its bit; a start and a write of ACR leave its bit. Assumes nothing.
 use Prim.Native.Nat.{ℕ, _+_, _%_, _*_, _-_, _<_, _/_}
 use mathlib.Core.Path.{_≡_, refl, sym, _∙_, ap}
-use mathlib.Core.Bool.{Bool, true, false, not, _||_, and-eq-true-iff}
+use mathlib.Core.Bool.{Bool, true, false, _||_, and-eq-true-iff}
 use mathlib.Core.List.{List, _∷_, _++_}
 use native.Mathlib.Omega.{arith}
 use lib.Dec.{eqb, leb}
@@ -32,7 +32,7 @@ use Rattle.demands.proofs.Laws.Fronts.{frontWritten, front-read, front-
 use Rattle.demands.proofs.Laws.Told.{over-append, over-then, acr-told}
 use Rattle.demands.proofs.Laws.Ports.{opcr-told}
 use Rattle.demands.proofs.Laws.Looks.{chip, interrupts-shown}
-use Rattle.demands.proofs.Laws.Pins.{pins}
+use Rattle.demands.proofs.Laws.Pins.{not-twice, pins}
 use Rattle.demands.proofs.Laws.Timers.{preload-told}
 use Rattle.demands.proofs.Laws.Counting.{not-true, acr-over}
 use Rattle.demands.proofs.Laws.Loads.{started-told, loaded-told, counter-count, counter-ready, timer-ready, timer-since}
@@ -54,10 +54,6 @@ count-whole levels es = let bytes = count-shown levels es in omega arith
 
 pub ready-shown : (levels : ℕ) (es : List Event) → hasBit (shows chip levels es 5) 3 ≡ frontAfter levels es .timer .ready
 ready-shown levels es = rw (interrupts-shown levels es) (bit-3 _ _ _ _ _ _ _ _)
-
-not-twice : (b : Bool) → not (not b) ≡ b
-not-twice true = refl
-not-twice false = refl
 
 pub output-shown : (levels : ℕ) (es : List Event) → eqb (over opcrThen 0 es / 4 % 4) 1 ≡ true → isTimer (modeOf (frontAfter levels es .acr)) ≡ true
     → hasBit (linesAfter chip levels es .op) 3 ≡ frontAfter levels es .timer .output

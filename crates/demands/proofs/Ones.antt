@@ -1,6 +1,6 @@
 -- The 1X transmitter clocks are as the statement has them: on every code but 15 the phase of a channel's sixteenths stands at the number of the
 -- transmitter's pulses since the restart % 16, whatever events came between; a code is set by a write of CSR, which restarts it. Assumes nothing.
-use Prim.Native.Nat.{ℕ, suc, _+_, _/_, _%_}
+use Prim.Native.Nat.{ℕ, suc, _+_, _%_}
 use mathlib.Core.Path.{_≡_, refl, sym, _∙_, ap}
 use mathlib.Core.Bool.{Bool, true, false, _&&_}
 use mathlib.Core.List.{List, [], _∷_, _++_, append-nil, append-assoc}
@@ -17,12 +17,12 @@ use Rattle.dividers.proofs.Laws.Divider.{pulsesOf, sixteenth-at}
 use Rattle.clocks.specs.declared.channel.ClockEvent.{ClockEvent}
 use Rattle.clocks.specs.declared.channel.Clocked.{Clocked}
 use Rattle.clocks.specs.declared.channel.Phases.{Phases}
-use Rattle.clocks.specs.Channel.{restarted, restartedOnChange, isSixteen, transmitter1x, clockedOf}
+use Rattle.clocks.specs.Channel.{restarted, isSixteen, transmitter1x, clockedOf}
 use Rattle.clocks.specs.Pulses.{codeOf}
 use Rattle.clocks.specs.Pulses.Side.{transmits}
 use Rattle.clocks.proofs.Pulses.{clocks}
 use Rattle.side.specs.declared.side.Side as Sides
-use Rattle.side.specs.Side.{freshSide, setChanged}
+use Rattle.side.specs.Side.{freshSide}
 use Rattle.front.specs.declared.front.Front.{Front}
 use Rattle.front.specs.Front.{frontAt}
 use Rattle.events.specs.declared.events.Event.{Event}
@@ -34,9 +34,9 @@ use Rattle.demands.specs.Clocks.{frontThen, frontAfter, sideOf, clocksOf
 use Rattle.demands.specs.Counted.{oneAfter}
 use Rattle.demands.specs.Pulses as Pulsing
 use Rattle.demands.specs.Pulses.{Restarts, restartsThen, codeAfter, sentSince, sentAfter, Ones}
-use Rattle.demands.proofs.Laws.Fronts.{sideWritten, sideNext, side-next}
+use Rattle.demands.proofs.Laws.Fronts.{sideNext, side-next}
 use Rattle.demands.proofs.Laws.Told.{over-then, acr-next}
-use Rattle.demands.proofs.Laws.Restarts.{SameClocks, written-same, csr-restarts, acr-written, acr-restarts}
+use Rattle.demands.proofs.Laws.Restarts.{SameClocks, acr-restarts, Counts, counts-written}
 use Rattle.demands.proofs.Pulses.{code-told}
 
 -- ---- one event of the clocks ----
@@ -84,37 +84,8 @@ record Told (ch : Channel) (x : Restarts) (f : Front) : Type 0 where
   acr : f .acr ≡ x .acr
   phase : Stands (x .ticks) (sideOf ch f)
 
-acr-changes : (ch : Channel) (f : Front) (byte sent : ℕ) → Stands sent (sideOf ch f)
-    → Stands (pick (eqb (f .acr / 128) (byte / 128)) sent 0) (setChanged (sideOf ch f) (f .acr) byte)
-unfolding setChanged restartedOnChange pick
-acr-changes ch f byte sent p = go (eqb (f .acr / 128) (byte / 128)) refl
-  where
-    go : (t : Bool) → eqb (f .acr / 128) (byte / 128) ≡ t
-        → Stands (pick (eqb (f .acr / 128) (byte / 128)) sent 0) (setChanged (sideOf ch f) (f .acr) byte)
-    go true e h = rw e (p h)
-    go false e h = rw e
-
-stands-at : {s r : Sides.Side} → s ≡ r → {sent past : ℕ} → sent ≡ past → Stands past r → Stands sent s
-stands-at w d p = rw (w, d) p
-
-written-next : (ch : Channel) (x : Restarts) (f : Front) (n byte : ℕ) → Told ch x f
-    → Stands (restartsThen ch x (Write n byte) .ticks) (sideWritten ch f n byte)
-unfolding pick
-written-next ch x f n byte p = go (eqb n (registerOf ch 1)) (eqb n 4) refl refl
-  where
-    s : Sides.Side
-    s = sideWritten ch f n byte
-
-    go : (t u : Bool) → eqb n (registerOf ch 1) ≡ t → eqb n 4 ≡ u → Stands (restartsThen ch x (Write n byte) .ticks) (sideWritten ch f n byte)
-    go true u h k =
-        let past : restartsThen ch x (Write n byte) .ticks ≡ 0 = rw h in
-        stands-at {s = s} refl past (stands-restarted s (csr-restarts ch f n byte h))
-    go false true h k =
-        let past : restartsThen ch x (Write n byte) .ticks ≡ pick (eqb (f .acr / 128) (byte / 128)) (x .ticks) 0 = rw (h, k, p .acr) in
-        stands-at {s = s} (acr-written ch f n byte k) past (acr-changes ch f byte (x .ticks) (p .phase))
-    go false false h k =
-        let past : restartsThen ch x (Write n byte) .ticks ≡ x .ticks = rw (h, k) in
-        stands-at {s = s} refl past (stands-same (x .ticks) (sideOf ch f) s (written-same ch f n byte h k) (p .phase))
+stands : Counts (λ acr n s. Stands n s)
+stands = record { restarts = λ acr s e. stands-restarted s e; same = λ acr n r s. stands-same n r s; set = λ acr byte n s e p. p }
 
 -- the count after an event
 abbrev sentThen : Channel → Front → Restarts → Event → Restarts
@@ -127,7 +98,7 @@ phase-next ch x f ChipReset p = stands-restarted freshSide refl
 phase-next ch x f (Read n) p =
     stands-same (x .ticks) (sideOf ch f) (sideNext ch f (Read n))
     (pick-all (SameClocks (sideOf ch f)) (eqb n (registerOf ch 0)) _ _ (refl, refl) (refl, refl)) (p .phase)
-phase-next ch x f (Write n byte) p = written-next ch x f n byte p
+phase-next ch x f (Write n byte) p = counts-written (λ acr n s. Stands n s) stands ch x f n byte (p .acr) (p .phase)
 phase-next ch x f Acknowledge p = p .phase
 phase-next ch x f (Pins levels) p = stands-clocked (x .ticks) (sideOf ch f) _ _ (p .phase)
 phase-next ch x f Tick p = stands-clocked (x .ticks) (sideOf ch f) _ _ (p .phase)

@@ -1,7 +1,7 @@
 -- Each output pin is the complement of what drives it: the output bits and OPCR, which the events tell, and ISR, which is shown. Assumes nothing.
 use Prim.Native.Nat.{ℕ, zero, suc, _<_, _/_, _%_}
-use mathlib.Core.Path.{_≡_, refl, _∙_}
-use mathlib.Core.Bool.{Bool, true, false, not}
+use mathlib.Core.Path.{_≡_, _∙_}
+use mathlib.Core.Bool.{true, false, not}
 use mathlib.Core.List.{List}
 use native.Mathlib.Omega.{arith}
 use lib.Dec.{eqb}
@@ -17,7 +17,7 @@ use Rattle.demands.specs.Registers.{outputsThen, opcrThen, acrAfter, sou
 use Rattle.demands.proofs.Laws.Told.{acr-told}
 use Rattle.demands.proofs.Laws.Ports.{outputs-told, opcr-told}
 use Rattle.demands.proofs.Laws.Looks.{chip}
-use Rattle.demands.proofs.Laws.Pins.{pins}
+use Rattle.demands.proofs.Laws.Pins.{not-twice, pins}
 
 -- ---- OP2 to OP0 ----
 
@@ -52,10 +52,6 @@ unfolding drivenOp3 pick
 third-shown levels es h =
     let k = rw (opcr-told levels es) at h in
     rw (outputs-told levels es) (pins levels es .op3 ∙ rw k)
-
-not-twice : (b : Bool) → not (not b) ≡ b
-not-twice true = refl
-not-twice false = refl
 
 counter-shown : (levels : ℕ) (es : List Event) → eqb (over opcrThen 0 es / 4 % 4) 1 ≡ true → isTimer (modeOf (acrAfter es)) ≡ false
     → hasBit (linesAfter chip levels es .op) 3 ≡ not (hasBit (shows chip levels es 5) 3)

@@ -87,10 +87,10 @@ use Rattle.demands.proofs.Laws.Buffer.{held-queue}
 use Rattle.demands.proofs.Delivery.{receiver-after, ledger-after, reads-after}
 
 -- the chip that is proved
-abbrev c : Chip
+abbrev pub c : Chip
 c = chipOf stepOf
 
-abbrev ticks : ℕ → List Event
+abbrev pub ticks : ℕ → List Event
 ticks n = replicate n Tick
 
 -- ---- the events ----
@@ -122,7 +122,7 @@ abbrev refusesMode : List Event → ℕ → Bool
 refusesMode es byte = pick (inDemands.sideOf A (runAt 255 es .front) .moved) (mr2NotModelled byte) (mr1NotModelled byte)
 
 -- both sides of channel A on one code
-abbrev coded : ℕ → List Event
+abbrev pub coded : ℕ → List Event
 coded csr = Write 1 csr ∷ []
 
 -- ---- Reached, Unaltered, Demand1 ----

@@ -5,7 +5,6 @@ use mathlib.Core.Path.{_≡_, refl}
 use mathlib.Core.Bool.{true, false}
 use mathlib.Core.List.{List, [], _∷_, _++_}
 use lib.Dec.{eqb}
-use lib.ListN.{replicate}
 use Rattle.events.specs.declared.events.Event.{Event}
 use Rattle.events.specs.declared.events.Event.the-variants.{Read, Write, Pins, Tick}
 use Rattle.format.specs.Format.{formatOf}
@@ -60,7 +59,7 @@ use Rattle.clocks.specs.Channel as inClocks
 use Rattle.front_clocks.specs.Clocking as inFrontClocks
 use Rattle.chip.specs.Alone.{handedAfter}
 use Rattle.chip.specs.Sound.{after}
-use Rattle.demands.specs.Chip.{Chip, chipOf, over, andThen, shows, statusBit}
+use Rattle.demands.specs.Chip.{chipOf, over, andThen, shows, statusBit}
 use Rattle.demands.specs.Chip.Channel.{A}
 use Rattle.demands.specs.Told.{levelsAfter, programmed, programmedThen}
 use Rattle.demands.specs.Clocks as inDemands
@@ -70,15 +69,9 @@ use Rattle.demands.specs.Counter.{countShown}
 use Rattle.demands.specs.Counted.{oneAfter, timerThen, timerFrom, timerAfter}
 use Rattle.demands.specs.Pulses.{clocks, codeAfter, sentSince, sentAfter}
 use Rattle.demands.specs.Sending.{inputsAt, inputsFrom, senderAfter}
-
--- the chip that is proved
-abbrev c : Chip
-c = chipOf stepOf
+use Rattle.demands_met.proofs.Examples.{c, ticks, coded}
 
 -- ---- the events ----
-
-abbrev ticks : ℕ → List Event
-ticks n = replicate n Tick
 
 -- a counter on ticks/16, preload 3, has reached its terminal
 abbrev rung : List Event
@@ -98,10 +91,6 @@ fallingClear = Pins 246
 abbrev falls : ℕ → List Event
 falls zero = []
 falls (suc n) = falling ∷ Pins 255 ∷ falls n
-
--- both sides of channel A on one code
-abbrev coded : ℕ → List Event
-coded csr = Write 1 csr ∷ []
 
 -- transmitter A at 1X, with CTS chosen, and 85 to send
 abbrev held : List Event

@@ -66,7 +66,7 @@ use Rattle.clocks.specs.Channel as inClocks
 use Rattle.front_clocks.specs.Clocking as inFrontClocks
 use Rattle.chip.specs.Alone.{handedAfter}
 use Rattle.chip.specs.Sound.{after}
-use Rattle.demands.specs.Chip.{Chip, Channel, chipOf, andThen, over, statusBit, allOf}
+use Rattle.demands.specs.Chip.{Channel, chipOf, andThen, over, statusBit, allOf}
 use Rattle.demands.specs.Chip.Channel.{A, B}
 use Rattle.demands.specs.Told.{programmedThen}
 use Rattle.demands.specs.Clocks as inDemands
@@ -82,9 +82,7 @@ use Rattle.demands.proofs.Laws.Told.{over-then}
 use Rattle.demands.proofs.Laws.Senders.{sender-told, txd-shown}
 use Rattle.demands.proofs.Delivery.{receiver-after}
 use Rattle.demands.proofs.ReadBack.{reads-back}
-
-abbrev c : Chip
-c = chipOf stepOf
+use Rattle.demands_met.proofs.Examples.{c}
 
 -- ---- the wire ----
 

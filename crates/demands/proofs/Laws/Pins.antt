@@ -1,7 +1,7 @@
 -- The output pins after some events, one by one: 255 less a byte has each bit turned over, and the byte is made of what drives each pin.
 -- Assumes nothing.
 use Prim.Native.Nat.{ℕ, _+_, _-_}
-use mathlib.Core.Path.{_≡_, _∙_, ap}
+use mathlib.Core.Path.{_≡_, refl, _∙_, ap}
 use mathlib.Core.Bool.{Bool, true, false, not}
 use mathlib.Core.List.{List}
 use native.Mathlib.Omega.{arith}
@@ -17,6 +17,10 @@ use Rattle.demands.specs.Clocks.{frontAfter}
 use Rattle.demands.proofs.Laws.Run.{run-front}
 use Rattle.demands.proofs.Laws.Bits.{bit-7, bit-6, bit-5, bit-4, bit-3, bit-2, bit-1, bit-0}
 use Rattle.demands.proofs.Laws.Looks.{chip, lines-after, interrupts-shown}
+
+pub not-twice : (b : Bool) → not (not b) ≡ b
+not-twice true = refl
+not-twice false = refl
 
 -- ---- the complement ----
 

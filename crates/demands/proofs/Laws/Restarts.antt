@@ -133,20 +133,53 @@ csr-restarts A f n byte e = let z : n ≡ 1 = eqb-true n 1 e in rw z
 csr-restarts B f n byte e = let z : n ≡ 9 = eqb-true n 9 e in rw z
 
 -- one to ACR
-acr-changes : (ch : Channel) (f : Front) (byte ticks : ℕ) → Stands (f .acr) ticks (sideOf ch f)
-    → Stands byte (pick (eqb (f .acr / 128) (byte / 128)) ticks 0) (setChanged (sideOf ch f) (f .acr) byte)
-unfolding setChanged restartedOnChange pick
-acr-changes ch f byte ticks p = go (eqb (f .acr / 128) (byte / 128)) refl
-  where
-    go : (t : Bool) → eqb (f .acr / 128) (byte / 128) ≡ t
-        → Stands byte (pick (eqb (f .acr / 128) (byte / 128)) ticks 0) (setChanged (sideOf ch f) (f .acr) byte)
-    go true e side h = rw (e, ← eqb-true (f .acr / 128) (byte / 128) e) (p side h)
-    go false e side h = rw e (phase-restarted side _)
-
 pub acr-written : (ch : Channel) (f : Front) (n byte : ℕ) → eqb n 4 ≡ true → sideWritten ch f n byte ≡ setChanged (sideOf ch f) (f .acr) byte
 unfolding pick
 acr-written A f n byte e = let z : n ≡ 4 = eqb-true n 4 e in rw z
 acr-written B f n byte e = let z : n ≡ 4 = eqb-true n 4 e in rw z
+
+-- ---- what is counted since a restart ----
+
+-- A fact of ACR, a count and a side, where a restart begins the count anew, only the clocks of the side matter, and of ACR only bit 7.
+pub record Counts (P : ℕ → ℕ → Sides.Side → Type 0) : Type 0 where
+  pub restarts : (acr : ℕ) (s : Sides.Side) → s .phases ≡ restarted → P acr 0 s
+  pub same : (acr n : ℕ) (r s : Sides.Side) → SameClocks r s → P acr n r → P acr n s
+  pub set : (acr byte n : ℕ) (s : Sides.Side) → eqb (acr / 128) (byte / 128) ≡ true → P acr n s → P byte n s
+
+-- it goes over a write as the restarts tell
+pub counts-written : (P : ℕ → ℕ → Sides.Side → Type 0) → Counts P → (ch : Channel) (x : Restarts) (f : Front) (n byte : ℕ) → f .acr ≡ x .acr
+    → P (f .acr) (x .ticks) (sideOf ch f)
+    → P (lastWritten 4 0 (f .acr) (Write n byte)) (restartsThen ch x (Write n byte) .ticks) (sideWritten ch f n byte)
+unfolding setChanged restartedOnChange pick
+counts-written P laws ch x f n byte told p = go (eqb n (registerOf ch 1)) (eqb n 4) (eqb (f .acr / 128) (byte / 128)) refl refl refl
+  where
+    s : Sides.Side
+    s = sideWritten ch f n byte
+
+    Goal : Type 0
+    Goal = P (lastWritten 4 0 (f .acr) (Write n byte)) (restartsThen ch x (Write n byte) .ticks) s
+
+    at : {acr before : ℕ} → acr ≡ before → {ticks past : ℕ} → ticks ≡ past → P before past s → P acr ticks s
+    at e d q = rw (e, d) q
+
+    go : (t u v : Bool) → eqb n (registerOf ch 1) ≡ t → eqb n 4 ≡ u → eqb (f .acr / 128) (byte / 128) ≡ v → Goal
+    go true u v h k w =
+        let past : restartsThen ch x (Write n byte) .ticks ≡ 0 = rw h in
+        at {before = lastWritten 4 0 (f .acr) (Write n byte)} refl past (laws .restarts _ s (csr-restarts ch f n byte h))
+    go false true true h k w =
+        let set : lastWritten 4 0 (f .acr) (Write n byte) ≡ byte = rw k in
+        let past : restartsThen ch x (Write n byte) .ticks ≡ x .ticks = rw (h, k, ← told, w) in
+        let same : SameClocks (sideOf ch f) s = rw (acr-written ch f n byte k, w) (refl, refl) in
+        at set past (laws .same byte (x .ticks) (sideOf ch f) s same (laws .set (f .acr) byte (x .ticks) (sideOf ch f) w p))
+    go false true false h k w =
+        let set : lastWritten 4 0 (f .acr) (Write n byte) ≡ byte = rw k in
+        let past : restartsThen ch x (Write n byte) .ticks ≡ 0 = rw (h, k, ← told, w) in
+        let anew : s .phases ≡ restarted = rw (acr-written ch f n byte k, w) in
+        at set past (laws .restarts byte s anew)
+    go false false v h k w =
+        let set : lastWritten 4 0 (f .acr) (Write n byte) ≡ f .acr = rw k in
+        let past : restartsThen ch x (Write n byte) .ticks ≡ x .ticks = rw (h, k) in
+        at set past (laws .same (f .acr) (x .ticks) (sideOf ch f) s (written-same ch f n byte h k) p)
 
 -- ---- any event ----
 
@@ -155,29 +188,13 @@ record Told (ch : Channel) (x : Restarts) (f : Front) : Type 0 where
   acr : f .acr ≡ x .acr
   phases : Stands (f .acr) (x .ticks) (sideOf ch f)
 
-written-next : (ch : Channel) (x : Restarts) (f : Front) (n byte : ℕ) → Told ch x f
-    → Stands (lastWritten 4 0 (f .acr) (Write n byte)) (restartsThen ch x (Write n byte) .ticks) (sideWritten ch f n byte)
-unfolding pick
-written-next ch x f n byte p = go (eqb n (registerOf ch 1)) (eqb n 4) refl refl
-  where
-    s : Sides.Side
-    s = sideWritten ch f n byte
-
-    go : (t u : Bool) → eqb n (registerOf ch 1) ≡ t → eqb n 4 ≡ u
-        → Stands (lastWritten 4 0 (f .acr) (Write n byte)) (restartsThen ch x (Write n byte) .ticks) (sideWritten ch f n byte)
-    go true u h k =
-        let past : restartsThen ch x (Write n byte) .ticks ≡ 0 = rw h in
-        let set : ℕ = lastWritten 4 0 (f .acr) (Write n byte) in
-        stands-at s s refl {before = set} refl past (stands-restarted set (sideWritten ch f n byte) (csr-restarts ch f n byte h))
-    go false true h k =
-        let set : lastWritten 4 0 (f .acr) (Write n byte) ≡ byte = rw k in
-        let past : restartsThen ch x (Write n byte) .ticks ≡ pick (eqb (f .acr / 128) (byte / 128)) (x .ticks) 0 = rw (h, k, p .acr) in
-        stands-at s _ (acr-written ch f n byte k) set past (acr-changes ch f byte (x .ticks) (p .phases))
-    go false false h k =
-        let same = stands-same (f .acr) (x .ticks) (sideOf ch f) (sideWritten ch f n byte) (written-same ch f n byte h k) (p .phases) in
-        let set : lastWritten 4 0 (f .acr) (Write n byte) ≡ f .acr = rw k in
-        let past : restartsThen ch x (Write n byte) .ticks ≡ x .ticks = rw (h, k) in
-        stands-at s s refl set past same
+stands : Counts Stands
+stands =
+    record {
+      restarts = stands-restarted;
+      same = stands-same;
+      set = λ acr byte n s e p side h. rw (← eqb-true (acr / 128) (byte / 128) e) (p side h);
+    }
 
 phases-next : (ch : Channel) (x : Restarts) (f : Front) (e : Event) → Told ch x f
     → Stands (lastWritten 4 0 (f .acr) e) (restartsThen ch x e .ticks) (sideNext ch f e)
@@ -186,7 +203,7 @@ phases-next ch x f ChipReset p = stands-restarted 0 freshSide refl
 phases-next ch x f (Read n) p =
     stands-same (f .acr) (x .ticks) (sideOf ch f) (sideNext ch f (Read n))
     (pick-all (SameClocks (sideOf ch f)) (eqb n (registerOf ch 0)) _ _ (refl, refl) (refl, refl)) (p .phases)
-phases-next ch x f (Write n byte) p = written-next ch x f n byte p
+phases-next ch x f (Write n byte) p = counts-written Stands stands ch x f n byte (p .acr) (p .phases)
 phases-next ch x f Acknowledge p = p .phases
 phases-next ch x f (Pins levels) p = stands-clocked (f .acr) (x .ticks) (sideOf ch f) _ refl (p .phases)
 phases-next ch x f Tick p = stands-ticked (f .acr) (x .ticks) (sideOf ch f) _ refl (p .phases)
