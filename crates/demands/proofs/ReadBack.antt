@@ -39,10 +39,10 @@ use Rattle.demands.specs.Delivery.{commands, linesFrom, ledger}
 use Rattle.demands.specs.Sending.{senderAfter, standing, Starts, startedFrame, keepsSending, pulsesFrom, sentFrom}
 use Rattle.demands.specs.ReadBack.{Listens, undisturbed, carried, formatAfter, ReadBack, ReadsBack}
 use Rattle.demands.proofs.Laws.Run.{runAt, run-append, run-sound, run-front, receiverAt, feedsFrom, run-receiver}
-use Rattle.demands.proofs.Laws.Looks.{change-bit}
+use Rattle.demands.proofs.Laws.Looks.{change-bit, ready-bit}
 use Rattle.demands.proofs.Laws.Feeds.{handsTo, hands}
 use Rattle.demands.proofs.Laws.Lines.{lines-from}
-use Rattle.demands.proofs.Laws.Buffer.{ready-shown, overrun-shown, held-queue}
+use Rattle.demands.proofs.Laws.Buffer.{overrun-shown, held-queue}
 use Rattle.demands.proofs.Delivery.{run-sampler}
 use Rattle.demands.proofs.Sends.{sends}
 
@@ -134,7 +134,7 @@ receiver-found levels ch es gs f ls h e =
 nothing-held : (levels : ℕ) (ch : Channel) (es : List Event) → Listens (chipOf stepOf) levels ch es
     → heldOf (receiverAt ch (runAt levels es) .queue) ≡ []
 nothing-held levels ch es h =
-    is-empty-held (receiverAt ch (runAt levels es) .queue) .0 (not-false _ (sym (ready-shown levels ch es) ∙ h .empty))
+    is-empty-held (receiverAt ch (runAt levels es) .queue) .0 (not-false _ (sym (ready-bit levels ch es) ∙ h .empty))
   where
     not-false : (b : Bool) → not b ≡ false → b ≡ true
     not-false true e = refl

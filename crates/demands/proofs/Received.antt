@@ -39,8 +39,8 @@ use Rattle.demands.specs.Received.{statusMarks, lastFrom, sumsFrom, chan
 use Rattle.demands.proofs.Laws.Bits.{bit-7, bit-6, bit-5}
 use Rattle.demands.proofs.Laws.Run.{runAt, run-front, run-sound, receiverAt}
 use Rattle.demands.proofs.Laws.Told.{told}
-use Rattle.demands.proofs.Laws.Looks.{chip, full-bit, change-bit}
-use Rattle.demands.proofs.Laws.Buffer.{status-told, ready-shown, four-counted, held-queue}
+use Rattle.demands.proofs.Laws.Looks.{chip, full-bit, change-bit, ready-bit}
+use Rattle.demands.proofs.Laws.Buffer.{status-told, four-counted, held-queue}
 use Rattle.demands.proofs.Laws.Follows.{receiverAfter, shows-buffer, last-after, oldest-known, sums-after, change-after}
 use Rattle.demands.proofs.Registers.{same-after}
 
@@ -58,14 +58,14 @@ counted levels ch es k =
     rw (held-queue levels ch es) (at-least-held (receiverAfter ch levels es .queue) k (four-counted ch (runAt levels es) (run-sound levels es)))
 
 ready-held : (levels : ℕ) (ch : Channel) (es : List Event) → statusBit chip levels ch es 0 ≡ leb 1 (length (held chip levels ch es))
-ready-held levels ch es = ready-shown levels ch es ∙ some (receiverAfter ch levels es .queue .count) ∙ counted levels ch es 1
+ready-held levels ch es = ready-bit levels ch es ∙ some (receiverAfter ch levels es .queue .count) ∙ counted levels ch es 1
 
 full-held : (levels : ℕ) (ch : Channel) (es : List Event) → statusBit chip levels ch es 1 ≡ leb 3 (length (held chip levels ch es))
 full-held levels ch es = full-bit levels ch es ∙ counted levels ch es 3
 
 empty-shown : (levels : ℕ) (ch : Channel) (es : List Event) → statusBit chip levels ch es 0 ≡ false
     → isEmptyOf (receiverAfter ch levels es .queue) ≡ true
-empty-shown levels ch es h = not-false _ (sym (ready-shown levels ch es) ∙ h)
+empty-shown levels ch es h = not-false _ (sym (ready-bit levels ch es) ∙ h)
 
 -- ---- the last byte read ----
 

@@ -39,6 +39,7 @@ use Rattle.chip.proofs.Examples.{idleLines}
 use Rattle.chip.proofs.Wrong.{which, isReset, isReadOf, isAcknowledge, withState}
 use Rattle.demands.specs.Chip.{Chip, chipOf}
 use Rattle.demands.specs.Demand1.{Request, requestFrame}
+use Rattle.demands.specs.Cases.{heard}
 
 abbrev pub isWrite : (ℕ → ℕ → Bool) → Event → Bool
 isWrite is ChipReset = false
@@ -270,3 +271,13 @@ abbrev pub clearsRefused : Request
 clearsRefused mr1 mr2 x space =
     pick (eqb (requestOf mr1 mr2 (length space) .number) 0) (requestFrame mr1 mr2 x space)
     (requestOf mr1 mr2 (length space), replicate (length space) 0)
+
+-- ---- events that several of them are tried with ----
+
+-- receiver A at 1X by IP4, MR1 as given; then one high, and these levels
+abbrev pub heardAt : ℕ → List Bool → List Event
+heardAt mr1 ls = Write 0 mr1 ∷ Write 1 255 ∷ Write 2 1 ∷ heard (true ∷ ls)
+
+-- IP3 falls: a pulse of transmitter A
+abbrev pub falls : Event
+falls = Pins 247

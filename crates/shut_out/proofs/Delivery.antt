@@ -74,7 +74,7 @@ use Rattle.demands.specs.Clocks.{clocksOf}
 use Rattle.demands.specs.Clocks as inChipClocks
 use Rattle.demands.specs.Delivery.{linesAt, fateOf, ledgerFrom, ledger, readFrom, heldFor, held, Demand3}
 use Rattle.demands.specs.Cases.{heard}
-use Rattle.shut_out.proofs.Chips.{constant, refusesAll, doesNothing, idlesLater, chipWith, readKeeps, resetGoesOn, hidesOverrun}
+use Rattle.shut_out.proofs.Chips.{constant, refusesAll, doesNothing, idlesLater, chipWith, readKeeps, resetGoesOn, hidesOverrun, heardAt}
 use Rattle.shut_out.proofs.Chips.{hidesMarks, alwaysReady}
 
 -- ---- what is due, and what was had ----
@@ -110,7 +110,7 @@ arrive (x ∷ xs) = heard (frame false (formatOf 16) 7 x) ++ arrive xs
 
 -- MR1 16, CSR code 15, and the receiver enabled; then one high, and they arrive
 abbrev line : List ℕ → List Event
-line xs = Write 0 16 ∷ Write 1 255 ∷ Write 2 1 ∷ heard (true ∷ []) ++ arrive xs
+line xs = heardAt 16 [] ++ arrive xs
 
 abbrev two : List Event
 two = line (1 ∷ 2 ∷ [])

@@ -71,7 +71,7 @@ use Rattle.demands.specs.Delivery.{linesAt, linesFrom, fateOf, ledgerFrom, ledg
 use Rattle.demands.specs.Sending.{inputsAt, inputsFrom, senderAfter, standing, Starts, startedFrame, keepsSending, pulsesFrom, sentFrom}
 use Rattle.demands.specs.ReadBack.{Listens, undisturbed, carried, formatAfter, ReadBack, ReadsBack}
 use Rattle.demands.specs.Cases.{heard}
-use Rattle.shut_out.proofs.Chips.{chipWith, cutsShort, neverSends}
+use Rattle.shut_out.proofs.Chips.{chipWith, cutsShort, neverSends, falls}
 
 -- ---- the events ----
 
@@ -90,10 +90,7 @@ highs = heard (replicate 113 true)
 abbrev about : List Event
 about = Write 0 16 ∷ Write 0 0 ∷ Write 1 238 ∷ Write 2 4 ∷ Write 3 31 ∷ []
 
--- IP3 falls; and again, so many times
-abbrev falls : Event
-falls = Pins 247
-
+-- IP3 falls again, so many times
 abbrev fallsOn : ℕ → List Event
 fallsOn zero = []
 fallsOn (suc n) = Pins 255 ∷ falls ∷ fallsOn n

@@ -2,7 +2,7 @@
 -- and differ. Assumes nothing.
 use Prim.Native.Nat.{ℕ, _+_, _/_, _%_}
 use mathlib.Core.Path.{refl, sym, ap}
-use mathlib.Core.Bool.{Bool, true, false, _&&_, true≢false}
+use mathlib.Core.Bool.{Bool, false, _&&_, true≢false}
 use mathlib.Core.List.{List, [], _∷_, _++_}
 use borrow.Author.Tests.{eqb-false}
 use lib.Dec.{eqb}
@@ -61,7 +61,7 @@ use Rattle.arrivals.specs.declared.arrivals.Receiver.{Receiver}
 use Rattle.arrivals.specs.Arrivals.{withChange}
 use Rattle.request.specs.Request.{firstRefusal, answerOf, requestOf, spaceAfter}
 use Rattle.events.specs.declared.events.Event.{Event}
-use Rattle.events.specs.declared.events.Event.the-variants.{Read, Write}
+use Rattle.events.specs.declared.events.Event.the-variants.{Read}
 use Rattle.chip.specs.Alone.{handedAfter}
 use Rattle.chip.specs.Lists.{Seen}
 use Rattle.chip.specs.Sound.{after}
@@ -75,7 +75,7 @@ use Rattle.demands.specs.Clocks as inChipClocks
 use Rattle.demands.specs.Delivery.{linesAt, fateOf, ledgerFrom, heldFor}
 use Rattle.demands.specs.Received.{lastFrom, sumsFrom, changeFrom, Received}
 use Rattle.demands.specs.Cases.{heard}
-use Rattle.shut_out.proofs.Chips.{Feeding, chipWith, hidesMarks, leadsTo, shownBy}
+use Rattle.shut_out.proofs.Chips.{Feeding, chipWith, hidesMarks, leadsTo, shownBy, heardAt}
 
 -- ---- more that are wrong ----
 
@@ -113,12 +113,8 @@ hidesCharacterMarks = shownBy (λ d n byte. pick (eqb n 1 && eqb (d .front .a .m
 
 -- ---- the events ----
 
--- receiver A at 1X, with five data bits, MR1 as given; then one high, and these levels
-abbrev line : ℕ → List Bool → List Event
-line mr1 ls = Write 0 mr1 ∷ Write 1 255 ∷ Write 2 1 ∷ heard (true ∷ ls)
-
 abbrev breaks : ℕ → List Event
-breaks mr1 = line mr1 (replicate 7 false)
+breaks mr1 = heardAt mr1 (replicate 7 false)
 
 abbrev one : List Bool
 one = frame false (formatOf 16) 7 1
@@ -140,9 +136,9 @@ wrong-received =
     record {
       no-noChange = λ h. true≢false (sym (h .change 255 A (breaks 16)));
       no-noSums = λ h. true≢false (sym (ap (λ (x : Marks). x .broken) (h .block 255 A (breaks 48) refl)));
-      no-forgetsLast = λ h. eqb-false 0 1 refl (h .repeats 255 A (line 16 one ++ Read 3 ∷ []) refl);
-      no-repeatsOnce = λ h. eqb-false 0 1 refl (ap (λ (x : Seen). x .byte) (h .nothing 255 A (line 16 one ++ Read 3 ∷ []) [] (Read 3) refl));
-      no-fullAtTwo = λ h. true≢false (h .full 255 A (line 16 (one ++ one)));
+      no-forgetsLast = λ h. eqb-false 0 1 refl (h .repeats 255 A (heardAt 16 one ++ Read 3 ∷ []) refl);
+      no-repeatsOnce = λ h. eqb-false 0 1 refl (ap (λ (x : Seen). x .byte) (h .nothing 255 A (heardAt 16 one ++ Read 3 ∷ []) [] (Read 3) refl));
+      no-fullAtTwo = λ h. true≢false (h .full 255 A (heardAt 16 (one ++ one)));
       no-hidesCharacterMarks = λ h. true≢false (sym (ap (λ (x : Marks). x .broken) (h .character 255 A (breaks 16) refl)));
       no-hidesMarks = λ h. true≢false (sym (ap (λ (x : Marks). x .broken) (h .character 255 A (breaks 16) refl)));
     }

@@ -71,7 +71,7 @@ use Rattle.demands.specs.Told.{programmedThen}
 use Rattle.demands.specs.Clocks.{clocksOf}
 use Rattle.demands.specs.Clocks as inChipClocks
 use Rattle.demands.specs.Sending.{inputsAt, inputsFrom, Transmits, Starts, pulsesFrom, Sends}
-use Rattle.shut_out.proofs.Chips.{isWrite, isWriteOf, neverSends, idlesAt, leadsTo, shownBy, keepsFirst, ignoresCts}
+use Rattle.shut_out.proofs.Chips.{isWrite, isWriteOf, neverSends, idlesAt, leadsTo, shownBy, keepsFirst, ignoresCts, falls}
 
 -- ---- more that are wrong ----
 
@@ -133,10 +133,7 @@ enabled mr2 = Write 0 19 ∷ Write 0 mr2 ∷ Write 1 255 ∷ Write 2 4 ∷ []
 abbrev sends : ℕ → List Event
 sends mr2 = enabled mr2 ++ Write 3 85 ∷ []
 
--- IP3 falls: with IP0 high, and low
-abbrev falls : Event
-falls = Pins 247
-
+-- IP3 falls with IP0 low
 abbrev fallsClear : Event
 fallsClear = Pins 246
 

@@ -2,14 +2,14 @@
 -- holds, and so many reads give all. Assumes nothing.
 use Prim.Native.Nat.{ℕ, zero, suc, _≤_}
 use mathlib.Core.Path.{_≡_, refl, sym, _∙_}
-use mathlib.Core.Bool.{true, false, not, and-false, and-eq-true-iff}
+use mathlib.Core.Bool.{true, false, and-false, and-eq-true-iff}
 use mathlib.Core.List.{List, [], _∷_, _++_}
 use native.Mathlib.Omega.{arith}
 use lib.ListN.{length, take, replicate}
 use borrow.Author.Tests.{leb-true}
 use Rattle.format.specs.Pick.{pick}
 use Rattle.character.specs.declared.character.Character.{Character}
-use Rattle.queue.specs.Queue.{heldOf, took, isEmptyOf}
+use Rattle.queue.specs.Queue.{heldOf, took}
 use Rattle.queue.proofs.Laws.Queue.{held-length, is-empty-held}
 use Rattle.sampler.specs.Sound.{samplerInRange}
 use Rattle.arrivals.specs.declared.arrivals.Receiver.{Receiver}
@@ -43,8 +43,9 @@ use Rattle.demands.specs.Chip.{Channel, registerOf, andThen, over, chipO
 use Rattle.demands.specs.Chip.Channel.{A, B}
 use Rattle.demands.specs.Clocks.{frontThen, sideOf}
 use Rattle.demands.specs.Delivery.{characterErrors, marksShown, readAt, heldFor, held}
-use Rattle.demands.proofs.Laws.Bits.{bit-7, bit-6, bit-5, bit-4, bit-0}
+use Rattle.demands.proofs.Laws.Bits.{bit-7, bit-6, bit-5, bit-4}
 use Rattle.demands.proofs.Laws.Run.{runAt, run-append, run-then, run-sound, step-sound, front-from, receiverAt, step-receiver, status-byte, buffer-byte}
+use Rattle.demands.proofs.Laws.Looks.{ready-bit}
 use Rattle.demands.proofs.Laws.Feeds.{handsTo, hands}
 
 -- ---- the status register ----
@@ -55,11 +56,6 @@ pub status-told : (levels : ℕ) (ch : Channel) (es : List Event)
     (Transmitters.statusOf (sideOf ch (runAt levels es .front) .transmitter))
 unfolding chipOf shownOf
 status-told levels ch es = status-byte ch (runAt levels es) (run-sound levels es)
-
--- "RxRDY: queue not empty."
-pub ready-shown : (levels : ℕ) (ch : Channel) (es : List Event)
-    → statusBit (chipOf stepOf) levels ch es 0 ≡ not (isEmptyOf (receiverAt ch (runAt levels es) .queue))
-ready-shown levels ch es = rw (status-told levels ch es) (bit-0 _ _ _ _ _ _ _ _)
 
 pub overrun-shown : (levels : ℕ) (ch : Channel) (es : List Event)
     → statusBit (chipOf stepOf) levels ch es 4 ≡ receiverAt ch (runAt levels es) .overrun
@@ -111,7 +107,7 @@ pub read-given : (levels : ℕ) (ch : Channel) (es : List Event)
     → readAt (chipOf stepOf) levels ch es ≡ given fedOf statusOf (receiverAt ch (runAt levels es)) Feeds.Read
 unfolding chipOf given fedOf
 read-given levels ch es =
-    rw (ready-shown levels ch es, marks-shown levels ch es, buffer-byte ch (runAt levels es) (run-sound levels es))
+    rw (ready-bit levels ch es, marks-shown levels ch es, buffer-byte ch (runAt levels es) (run-sound levels es))
 
 pub four-counted : (ch : Channel) (d : Device) → isSoundOf d ≡ true → receiverAt ch d .queue .count ≤ 4
 four-counted ch d s =
@@ -163,7 +159,7 @@ four-empty levels ch es =
     let d : Device = runAt levels es in
     let none : heldAt ch (runAt levels (es ++ replicate 4 (Read (registerOf ch 3)))) ≡ [] =
     rw (run-append (resetAt levels) es _) (emptied 4 ch d (run-sound levels es) (four-held ch d (run-sound levels es))) in
-    ready-shown levels ch _ ∙ rw (is-empty-held _ .1 none)
+    ready-bit levels ch _ ∙ rw (is-empty-held _ .1 none)
 
 one-and-rest : (h : List Character) → take 1 h ++ took h ≡ h
 one-and-rest [] = refl

@@ -28,10 +28,10 @@ use Rattle.demands.specs.Clocks.{frontAfter}
 use Rattle.demands.specs.Delivery.{linesAt, fateOf, heardAll, ledgerFrom, ledger, readsBuffer, readFrom, held}
 use Rattle.demands.specs.Received.{commandOf, isChipReset, lastFrom, oldestAt, became, sumsFrom, changes, changeFrom}
 use Rattle.demands.proofs.Laws.Run.{runAt, run-then, run-sound, receiverAt, buffer-byte}
-use Rattle.demands.proofs.Laws.Looks.{chip}
+use Rattle.demands.proofs.Laws.Looks.{chip, ready-bit}
 use Rattle.demands.proofs.Laws.Feeds.{handsTo, hands}
 use Rattle.demands.proofs.Laws.Lines.{lines-handed, ledger-event}
-use Rattle.demands.proofs.Laws.Buffer.{ready-shown, held-queue}
+use Rattle.demands.proofs.Laws.Buffer.{held-queue}
 use Rattle.demands.proofs.Laws.Oldest.{isNil, none-at}
 use Rattle.demands.proofs.Laws.Clearing.{reset-handed, sums-handed, change-handed}
 use Rattle.demands.proofs.Laws.Sums.{last-fed, sums-fed, change-fed}
@@ -60,7 +60,7 @@ last-then levels ch es e =
       last-fed (receiverAfter ch levels es) (handsTo ch f e),
       reset-handed ch f e,
       read-handed ch f e,
-      ready-shown levels ch es,
+      ready-bit levels ch es,
       shows-buffer levels ch es,
     )
 
