@@ -162,6 +162,11 @@ pub record WrongCounter : Type 0 where
   pub no-startClears-change : Counter (chipOf startClears) → ⊥
   pub no-writeReloads : Counter (chipOf writeReloads) → ⊥
   pub no-preloadCounts-count : Counter (chipOf preloadCounts) → ⊥
+  -- the count of a timer, after a change to a counter mode, and after a stop of a counter and of a timer
+  pub no-countsNothing-reloads : Counter countsNothing → ⊥
+  pub no-countsNothing-changed : Counter countsNothing → ⊥
+  pub no-stopsNothing-halts : Counter (chipOf stopsNothing) → ⊥
+  pub no-stopHalts-runsOn : Counter (chipOf stopHalts) → ⊥
   -- the same, after any events
   pub no-countsNothing-counted : Counted countsNothing → ⊥
   pub no-neverTerminal-counted : Counted neverTerminal → ⊥
@@ -183,6 +188,10 @@ wrong-counter =
       no-startClears-change = λ h. true≢false (sym (h .sets 255 96 (preloaded 3 ++ Read 14 ∷ sixteen)));
       no-writeReloads = λ h. eqb-false 5 0 refl (h .kept 255 0 (Write 7 5 ∷ []) refl);
       no-preloadCounts-count = λ h. eqb-false 5 0 refl (h .preloads 255 5 [] .1);
+      no-countsNothing-reloads = λ h. eqb-false 0 1 refl (h .reloads 255 6 (preloaded 6) [] (Read 14) loaded refl);
+      no-countsNothing-changed = λ h. eqb-false 0 5 refl (h .changed 255 3 48 (Write 7 5 ∷ []) [] refl refl refl);
+      no-stopsNothing-halts = λ h. eqb-false 4 5 refl (h .halts 255 (Write 7 5 ∷ Read 14 ∷ []) rises refl refl);
+      no-stopHalts-runsOn = λ h. eqb-false 5 4 refl (h .runsOn 255 (Write 7 5 ∷ Write 4 96 ∷ []) (Tick ∷ []) refl refl .0);
       no-countsNothing-counted = λ h. eqb-false 0 1 refl (h .low 255 (preloaded 3 ++ Read 14 ∷ []));
       no-neverTerminal-counted = λ h. true≢false (sym (h .bit 255 (preloaded 0 ++ Read 14 ∷ rises)));
       no-resetRuns = λ h. eqb-false 255 0 refl (h .high 255 (ChipReset ∷ rises));
@@ -196,6 +205,9 @@ wrong-counter =
 
     counter-on : Started 3 sixteen
     counter-on = record { loaded = refl; clock = (eqb-false 3 1 refl, eqb-false 3 2 refl); preload = one-preload; left = refl }
+
+    loaded : Started 6 []
+    loaded = record { loaded = refl; clock = (eqb-false 6 1 refl, eqb-false 6 2 refl); preload = one-preload; left = refl }
 
     timer : Started 6 (Tick ∷ Tick ∷ [])
     timer = record { loaded = refl; clock = (eqb-false 6 1 refl, eqb-false 6 2 refl); preload = one-preload; left = refl }
