@@ -1,0 +1,2 @@
+-- The proofs of the board: the machine values that the thin step moves, and a file a function.
+pub mod Machine

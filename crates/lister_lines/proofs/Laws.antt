@@ -1,0 +1,3 @@
+-- The laws that the theorem goes by, a file a topic. Assumes nothing.
+pub mod Going
+pub mod Sides

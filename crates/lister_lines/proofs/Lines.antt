@@ -1,0 +1,103 @@
+-- What is printed for any bytes is their frames: the device stays one whose A side is as a frame leaves it, so each byte's line is that of its
+-- frame, bit by bit. Assumes nothing.
+use Prim.Native.Nat.{ℕ, _+_}
+use mathlib.Core.Path.{_≡_, refl, _∙_, ap, subst}
+use mathlib.Core.Bool.{Bool, true}
+use mathlib.Core.List.{List, [], _∷_, _++_}
+use native.Mathlib.Omega.{arith}
+use lib.ListN.{getD}
+use Rattle.format.specs.Digits.{bitsOf}
+use Rattle.format.specs.Format.{formatOf}
+use Rattle.format.specs.Parity.{parityBits}
+use Rattle.format.specs.Pick.{pick}
+use Rattle.frame.specs.Levels.{beforeStop}
+use Rattle.frame.proofs.Laws.Levels.{before-stop-most, length-before-stop}
+use Rattle.frame.proofs.Laws.Register.{register-at}
+use Rattle.receiver.specs.Receiver.{fedOf}
+use Rattle.receiver_commands.specs.Commands.{effectOf, enablingOf}
+use Rattle.transmitter.specs.Transmitter.{afterInput}
+use Rattle.side.specs.declared.side.Side.{Side}
+use Rattle.side.specs.Side.{freshSide, modeNotModelled, modeWritten, csrWritten, bufferWritten}
+use Rattle.commands.specs.Commands.{transmitterEffect, receiverEffect, transmitterEnabling, receiverEnabling, sideCommanded, commandFeed}
+use Rattle.front.specs.Front.{frontAt}
+use Rattle.writes.specs.Writes.{sideWritten, registerWritten}
+use Rattle.events.specs.declared.events.Event.the-variants.{Write}
+use Rattle.events.specs.Refusals.{registerAbove15, forbiddenRead, forbiddenCommand}
+use Rattle.front_events.specs.FrontEvents.{frontStepped}
+use Rattle.front_events.specs.NotModelled.{writeNotModelled, settingNotModelled}
+use Rattle.device.specs.declared.device.Device.{Device}
+use Rattle.device.specs.Device.{freshDevice}
+use Rattle.refusals.specs.Refusals.{acknowledgedUnasserted, firstOf}
+use Rattle.duart.specs.declared.duart.Answer.{Answer}
+use Rattle.duart.specs.Duart.{takenOf, numberOf, stepOf}
+use Rattle.ticking.specs.Ticking.{ticked}
+use Rattle.listing.specs.Listing.{preparedDevice, lineOf, listedOf, linesFrom, printed, frameText, framesText}
+use Rattle.lister_lines.proofs.Laws.Going.{Going, Shows, sideTicked, side-more, write-shows, ticks-show}
+use Rattle.lister_lines.proofs.Laws.Sides.{preparedSide, startedSide, sentSide, frameLevel, first-starts, next-starts, sent}
+
+-- ---- one byte ----
+
+-- 24 ticks after the write its frame starts
+abbrev Starts : Side → ℕ → Type 0
+Starts s byte = sideTicked 24 (bufferWritten s byte) ≡ startedSide byte
+
+-- so many ticks after that
+later : (d : Device) (s : Side) (byte n : ℕ) → Going d s → Starts s byte
+    → Shows (ticked (24 + n) (stepOf d (Write 3 byte))) (sideTicked n (startedSide byte))
+later d s byte n g h =
+    subst (Shows (ticked (24 + n) (stepOf d (Write 3 byte)))) (side-more 24 n (bufferWritten s byte) ∙ ap (sideTicked n) h)
+    (ticks-show (24 + n) _ _ (write-shows d s byte g))
+
+-- a level of the register that sends is a bit of the frame, high past those before the stop
+frame-bit : (byte k : ℕ) → frameLevel byte k ≡ getD (beforeStop (formatOf 19) byte) k true
+frame-bit byte k =
+    let l = length-before-stop (formatOf 19) byte in
+    let m = before-stop-most 19 in
+    register-at (formatOf 19) byte k (rw l (omega (arith, m)))
+
+seen : (d : Device) (s : Side) (byte n k : ℕ) → Going d s → Starts s byte → sideTicked n (startedSide byte) .transmitter .txd ≡ frameLevel byte k
+    → ticked (24 + n) (stepOf d (Write 3 byte)) .lines .txda ≡ getD (beforeStop (formatOf 19) byte) k true
+seen d s byte n k g h e = later d s byte n g h .line ∙ e ∙ frame-bit byte k
+
+line-of : (d : Device) (s : Side) (byte : ℕ) → Going d s → Starts s byte → listedOf d byte .line ≡ frameText byte
+unfolding listedOf lineOf frameText beforeStop parityBits formatOf bitsOf pick
+line-of d s byte g h =
+    let b = sent byte in
+    rw (
+      seen d s byte 192 0 g h (b .bit0),
+      seen d s byte 576 1 g h (b .bit1),
+      seen d s byte 960 2 g h (b .bit2),
+      seen d s byte 1344 3 g h (b .bit3),
+      seen d s byte 1728 4 g h (b .bit4),
+      seen d s byte 2112 5 g h (b .bit5),
+      seen d s byte 2496 6 g h (b .bit6),
+      seen d s byte 2880 7 g h (b .bit7),
+      seen d s byte 3264 8 g h (b .bit8),
+      seen d s byte 3648 9 g h (b .bit9),
+    )
+
+next-of : (d : Device) (s : Side) (byte : ℕ) → Going d s → Starts s byte → Going (listedOf d byte .state) (sentSide byte)
+unfolding listedOf
+next-of d s byte g h = subst (Going (listedOf d byte .state)) (sent byte .over) (later d s byte 3816 g h .going)
+
+-- ---- any bytes ----
+
+-- after one, others
+others : (d : Device) (before : ℕ) (bytes : List ℕ) → Going d (sentSide before) → linesFrom d bytes ≡ framesText bytes
+unfolding linesFrom framesText
+others d before [] g = refl
+others d before (byte ∷ bytes) g =
+    let h = next-starts before byte in
+    rw (line-of d (sentSide before) byte g h, others (listedOf d byte .state) byte bytes (next-of d (sentSide before) byte g h))
+
+prepared-going : Going preparedDevice preparedSide
+unfolding preparedDevice stepOf numberOf firstOf acknowledgedUnasserted takenOf freshDevice registerAbove15 forbiddenRead forbiddenCommand writeNotModelled settingNotModelled frontStepped registerWritten sideWritten modeWritten modeNotModelled csrWritten freshSide frontAt sideCommanded commandFeed transmitterEffect receiverEffect transmitterEnabling receiverEnabling afterInput fedOf effectOf enablingOf formatOf pick
+prepared-going = record { sound = refl; side = refl; acr = refl; levels = refl; coded = refl }
+
+-- the line of each byte is that of its frame
+pub lines : (bytes : List ℕ) → printed bytes ≡ framesText bytes
+unfolding linesFrom framesText
+lines [] = refl
+lines (byte ∷ bytes) =
+    let h = first-starts byte in
+    rw (line-of preparedDevice preparedSide byte prepared-going h, others (listedOf preparedDevice byte .state) byte bytes (next-of preparedDevice preparedSide byte prepared-going h))

@@ -1,0 +1,1 @@
+// What the frame lister prints, for every input: theorems only, no code.

@@ -1,0 +1,2 @@
+-- The laws of one byte's line. Assumes nothing.
+pub mod Turns

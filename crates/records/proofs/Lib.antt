@@ -1,0 +1,1 @@
+-- The proofs of the records: each function has a file of its own.

@@ -1,0 +1,2 @@
+-- The proofs of many ticks in a row.
+pub mod Laws

@@ -1,0 +1,13 @@
+-- `at_rest` meets its contract: the lines are `device_lines`'s. Assumes nothing.
+use Prim.{tt}
+use Rattle.ticking.proofs.ticking.at_rest.Statement.{statement}
+use Rattle.ticking.proofs.ticking.at_rest.Tie as tie
+
+device-lines-requires : tie.Need-device-lines-requires
+device-lines-requires c κs = tt
+
+returns : tie.Need-returns
+returns c = simp (c .device-lines .ensures)
+
+pub at-rest-spec : {M : Type 1} → statement M
+at-rest-spec = tie.close (tie.spec device-lines-requires returns)

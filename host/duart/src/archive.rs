@@ -1,0 +1,33 @@
+//! The four names of the archive, as include/duart.h declares them. Nothing checks these lines against the Rattle source:
+//! the differential test does.
+
+use crate::device::Device;
+use crate::{EventRecord, FrameAnswer, Seen};
+
+extern "C" {
+    fn duart_fresh() -> Device;
+    fn duart_step(device: *mut Device, event: EventRecord) -> Seen;
+    fn duart_frame(mr1: u8, mr2: u8, byte: u8, space: *mut u8, length: usize) -> FrameAnswer;
+    fn duart_sound(device: Device) -> bool;
+}
+
+pub fn fresh() -> Device {
+    // SAFETY: it takes nothing and returns plain data.
+    unsafe { duart_fresh() }
+}
+
+pub fn step(device: &mut Device, event: EventRecord) -> Seen {
+    // SAFETY: the device is lent for the call alone; each of its fields is a value of its type, which is all that the
+    // proved function asks.
+    unsafe { duart_step(device, event) }
+}
+
+pub fn frame(mr1: u8, mr2: u8, byte: u8, space: &mut [u8]) -> FrameAnswer {
+    // SAFETY: the pointer and the length are those of one slice, lent for the call alone.
+    unsafe { duart_frame(mr1, mr2, byte, space.as_mut_ptr(), space.len()) }
+}
+
+pub fn sound(device: Device) -> bool {
+    // SAFETY: plain data in, plain data out.
+    unsafe { duart_sound(device) }
+}

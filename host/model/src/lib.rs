@@ -1,0 +1,31 @@
+//! The mill controller's serial chip, written from document 01 alone and not from the Rattle
+//! definitions: what a programmer would write who wants a model of the chip. Nothing in it is proved,
+//! and nothing that is proved leans on it; it is there to be compared.
+//!
+//! A comment in double quotes is a sentence (or a part of one) of document 01, word for word.
+
+pub mod channel;
+pub mod character;
+pub mod chip;
+pub mod clock;
+pub mod counter_timer;
+pub mod draws;
+pub mod format;
+pub mod frame;
+pub mod level;
+pub mod pins;
+pub mod ports;
+pub mod queue;
+pub mod receiver;
+pub mod request;
+pub mod transmitter;
+
+mod interrupts;
+mod refusals;
+mod registers;
+
+#[cfg(test)]
+mod tests;
+
+pub use chip::{Chip, Event, Seen};
+pub use request::{frame, FrameAnswer};

@@ -1,0 +1,240 @@
+/*
+ * The MC68681 serial chip (DUART), proved: what a board maker links.
+ *
+ * `rt staticlib board` writes target/staticlib/libboard.a, which holds the four functions below. Each is proved to
+ * meet its contract (crates/board/src/board.rt) for every argument, so a caller owes no more than C itself does:
+ *
+ *  - pointers lead to what they say, and are used by no other thread during the call;
+ *  - every field of a struct is a value of its type. A bool is 0 or 1 and nothing else: a device that was filled from a file
+ *    or from the network byte by byte must have its bools tested first;
+ *  - a device is made by duart_fresh() and altered by duart_step() only. One that was made in another way is answered with
+ *    number 1 where it is unsound (docs/SOUND.md lists the ranges), and is left as it was.
+ *
+ * Nothing here allocates, blocks, keeps a pointer or holds state of its own: two devices are two chips.
+ */
+#ifndef DUART_H
+#define DUART_H
+
+#include <stdbool.h>
+#include <stddef.h>
+#include <stdint.h>
+
+#ifdef __cplusplus
+extern "C" {
+#endif
+
+/* ---- counts: crystal ticks, 16X or 1X pulses and whole bits are three counts that the manual keeps apart ---- */
+
+typedef struct duart_ticks {
+    uint64_t count;
+} duart_ticks;
+
+typedef struct duart_pulses {
+    uint8_t count;
+} duart_pulses;
+
+typedef struct duart_bits {
+    uint8_t count;
+} duart_bits;
+
+/* ---- a receiver ---- */
+
+/* What MR1 chooses of a character's form. */
+typedef struct duart_format {
+    duart_bits width; /* data bits, 5 to 8 */
+    uint8_t parity;   /* 0 with parity, 1 forced, 2 none */
+    bool odd;         /* odd, or forced high */
+} duart_format;
+
+/* The form and the clock that a receiver takes at a character's low pulse p. */
+typedef struct duart_setting {
+    duart_format format;
+    bool sixteen; /* 16X rather than 1X */
+} duart_setting;
+
+/* What a receiver does with its line. */
+typedef struct duart_sampler {
+    uint8_t phase;     /* 0 hunting, 1 from p to p+8, 2 a confirmed start, 3 after a low stop, 4 in a break */
+    bool high;         /* hunting: the last sample was high */
+    duart_pulses left; /* pulses still to come before the one that decides */
+    duart_setting setting;
+    duart_bits taken; /* samples taken since the confirmed start */
+    uint16_t value;   /* those samples, the first one lowest */
+} duart_sampler;
+
+/* The error marks of a received character. */
+typedef struct duart_marks {
+    bool broken;
+    bool framing;
+    bool parity;
+} duart_marks;
+
+typedef struct duart_character {
+    uint8_t byte;
+    duart_marks marks;
+} duart_character;
+
+/* The queue of three and the waiting place. */
+typedef struct duart_queue {
+    uint8_t count; /* 0 to 3 in the queue, 4 where one waits besides */
+    duart_character first;
+    duart_character second;
+    duart_character third;
+    duart_character waiting;
+} duart_queue;
+
+typedef struct duart_receiver {
+    duart_sampler sampler;
+    duart_queue queue;
+    bool overrun;
+    duart_marks sums; /* of all that became oldest, for block errors */
+    bool change;      /* break change */
+    uint8_t last;     /* the last byte read */
+} duart_receiver;
+
+/* ---- all of the chip but its receivers ---- */
+
+/* The character that is being sent. */
+typedef struct duart_shifter {
+    uint16_t frame; /* the bits before the stop, the first one lowest, and high past them */
+    bool sixteen;   /* 16X rather than 1X */
+    duart_pulses length;
+    duart_pulses sent;
+} duart_shifter;
+
+typedef struct duart_transmitter {
+    bool enabled;
+    bool full; /* the holding place is full */
+    uint8_t holding;
+    uint8_t phase; /* 0 idle, 1 a character, 2 a break, 3 the high bit after it */
+    duart_shifter shifter;
+    duart_pulses left; /* after a break: pulses still to come before the one that completes the bit */
+    bool asked;        /* a break is asked and has not begun */
+    bool txd;          /* the level of TxD */
+} duart_transmitter;
+
+/* The phases of a channel's dividers. */
+typedef struct duart_phases {
+    duart_ticks receiver;
+    duart_ticks transmitter;
+    duart_pulses sixteenths; /* of the transmitter's 16X pulses, which make its 1X clock */
+} duart_phases;
+
+/* One channel's registers, transmitter and clocks. */
+typedef struct duart_side {
+    uint8_t mr1;
+    uint8_t mr2;
+    bool moved; /* the pointer has moved from MR1 to MR2 */
+    uint8_t csr;
+    bool enabled; /* the receiver's enable */
+    duart_transmitter transmitter;
+    duart_phases phases;
+} duart_side;
+
+/* The counter/timer. */
+typedef struct duart_timer {
+    uint16_t preload;
+    uint16_t count;
+    bool running;
+    bool output; /* the level of the timer output */
+    bool ready;  /* ISR bit 3 */
+    duart_ticks ticks;
+    duart_pulses edges;
+} duart_timer;
+
+typedef struct duart_inputs {
+    uint8_t levels;  /* bits 0-5 IP0-IP5, 6 RxDA, 7 RxDB */
+    uint8_t changes; /* the change flags of IP3 to IP0 */
+} duart_inputs;
+
+typedef struct duart_outputs {
+    uint8_t bits;
+    uint8_t opcr;
+} duart_outputs;
+
+typedef struct duart_front {
+    duart_side a;
+    duart_side b;
+    duart_timer timer;
+    duart_inputs inputs;
+    duart_outputs outputs;
+    uint8_t acr;
+    uint8_t imr;
+    uint8_t ivr;
+} duart_front;
+
+/* The whole chip, 200 bytes. It may be copied, kept and compared field by field; it holds no pointer. */
+typedef struct duart_device {
+    duart_front front;
+    duart_receiver a;
+    duart_receiver b;
+} duart_device;
+
+/* ---- one event, one answer ---- */
+
+/* The kinds of event. A kind above DUART_TICK is answered as a read of register 255: with 2, nothing altered. */
+enum {
+    DUART_CHIP_RESET = 0,
+    DUART_READ = 1,        /* register `reg` */
+    DUART_WRITE = 2,       /* register `reg` with `byte` */
+    DUART_ACKNOWLEDGE = 3, /* an interrupt acknowledge */
+    DUART_PINS = 4,        /* all pins at once; `byte`: bits 0-5 IP0-IP5, 6 RxDA, 7 RxDB, 1 is high */
+    DUART_TICK = 5         /* one tick of the 3.6864 MHz crystal */
+};
+
+/* An event. Write 0 into what a kind does not use. */
+typedef struct duart_event {
+    uint8_t kind;
+    uint8_t reg;
+    uint8_t byte;
+} duart_event;
+
+/* The numbers of an answer. */
+enum {
+    DUART_ACCEPTED = 0,
+    DUART_UNSOUND = 1,           /* the state given is unsound */
+    DUART_REGISTER_ABOVE_15 = 2, /* register above 15 */
+    DUART_FORBIDDEN_READ = 3,    /* read of register 2 or 10 */
+    DUART_FORBIDDEN_COMMAND = 4, /* command whose bits 3-2 or 1-0 are 11 */
+    DUART_NOT_MODELLED = 5,      /* a write, or a frame request, that chooses a setting which is not modelled */
+    DUART_NOT_ASSERTED = 6,      /* an acknowledge while IRQ is not asserted */
+    DUART_NEW_UNSOUND = 7,       /* the new state would be unsound: never given on a sound state */
+    DUART_SPACE_SHORT = 8        /* a frame request's space is shorter than the frame */
+};
+
+/* What is seen of an answer. Refused: data 0, and the lines as the device drives them (for 1, all lines 0). */
+typedef struct duart_seen {
+    uint8_t number;
+    uint8_t data; /* the data byte, 0 where none is read */
+    bool irq;     /* asserted */
+    bool txda;
+    bool txdb;
+    uint8_t op; /* bit n is the level of OPn */
+} duart_seen;
+
+/* A frame request's answer: the number, and how many levels were written, 0 if refused. */
+typedef struct duart_frame_answer {
+    uint8_t number;
+    uint8_t length;
+} duart_frame_answer;
+
+/* The state after a chip reset with all pins high. */
+duart_device duart_fresh(void);
+
+/* Takes one event: the device holds the new state then, or is as it was where the number is not 0. */
+duart_seen duart_step(duart_device *device, duart_event event);
+
+/*
+ * Writes the levels of a frame, one byte 0 or 1 for each 16X pulse, at most 192, into the first bytes of the `size` bytes at
+ * `space`; those past it stay. Refused (5, 8): length 0 and nothing written. `space` is not NULL, also where `size` is 0.
+ */
+duart_frame_answer duart_frame(uint8_t mr1, uint8_t mr2, uint8_t byte, uint8_t *space, size_t size);
+
+/* Whether every field is in the range that docs/SOUND.md lists, with the rule on the waiting place. */
+bool duart_sound(duart_device device);
+
+#ifdef __cplusplus
+}
+#endif
+
+#endif
