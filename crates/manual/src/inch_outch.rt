@@ -1,0 +1,37 @@
+// The I/O driver example of 002, section 6.4.2.2: INCH waits for RxRDY and takes a character, OUTCH
+// waits for TxRDY and gives one. Their flowchart, figure 6-10, is a picture that the text does not have.
+use crate::script::example;
+
+fn inch() {
+    example(
+        b"INCH \"gets a character from the channel receiver\", three times (002, 6.4.2.2)",
+        b"w0,19 w0,7 w1,187 w2,5 t48 r1,12 a65 a66 q1,1 r3,65 a67 q1,1 r3,66 q1,1 r3,67 r1,12 ",
+        b"as the manual says",
+    );
+}
+
+// 65: start 0, then 1, 0, 0, 0, 0, 0, 1, 0, and stop 1.
+fn outch() {
+    example(
+        b"OUTCH \"is used to send a character to the channel transmitter\", 65 bit by bit (002, 6.4.2.2)",
+        b"w0,19 w0,7 w1,187 w2,5 q1,4 w3,65 t216 d0 t384 d1 t384 d0 t384 d0 t384 d0 t384 d0 \
+        t384 d0 t384 d1 t384 d0 t384 d1 q1,8 d1 ",
+        b"as the manual says",
+    );
+}
+
+// The fourth OUTCH waits until the third character has left the holding register.
+fn both() {
+    example(
+        b"OUTCH of 77, 105, 108, 108 and INCH of the same over a wire (002, 6.4.2.2)",
+        b"w0,19 w0,7 w1,187 j w2,5 q1,4 w3,77 q1,4 w3,105 q1,1 r3,77 q1,4 w3,108 q1,4 w3,108 \
+        q1,1 r3,105 q1,1 r3,108 q1,1 r3,108 q1,8 r1,12 ",
+        b"as the manual says",
+    );
+}
+
+pub fn examples() {
+    inch();
+    outch();
+    both();
+}

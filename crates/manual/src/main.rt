@@ -1,0 +1,25 @@
+// The manuals' worked examples, run on the chip and compared with what they should be. One line an
+// example: its name and source, what came, and what the comparison says: "as the manual says", or "01
+// decides" with what document 01 fixes where the manual is open, or says another thing, or DIFFERS.
+mod bench;
+mod break_change;
+mod command_table;
+mod inch_outch;
+mod initialization;
+mod rates;
+mod register_table;
+mod script;
+mod stops;
+mod text;
+mod trace;
+mod word;
+
+fn main() {
+    rates::examples();
+    register_table::examples();
+    command_table::examples();
+    initialization::examples();
+    inch_outch::examples();
+    break_change::examples();
+    stops::examples();
+}

@@ -1,0 +1,87 @@
+//! The differential test: the proved chip, through the archive's C interface, beside the independent model
+//! of document 01. `differential [EVENTS [SEED]]` runs so many events of random scripts, then random devices
+//! and all frame requests, and exits with 1 at the first difference, which it prints so that the replay
+//! program can show it.
+
+mod counting;
+mod coverage;
+mod devices;
+mod drawing;
+mod frames;
+mod generator;
+mod interface;
+mod line;
+mod pair;
+mod program;
+mod rates;
+mod report;
+mod script;
+mod scripts;
+mod sound;
+
+use coverage::Coverage;
+use std::process::ExitCode;
+
+/// Enough to reach every sight of coverage.rs many times, in a second or two.
+const EVENTS: u64 = 4_000_000;
+const DEVICES: u64 = 200_000;
+const SEED: u64 = 1;
+
+/// EVENTS and SEED; none where an argument is no number or there are more.
+fn arguments() -> Option<(u64, u64)> {
+    let arguments: Vec<String> = std::env::args().skip(1).collect();
+    let number = |place: usize, or: u64| match arguments.get(place) {
+        Some(text) => text.parse().ok(),
+        None => Some(or),
+    };
+    let numbers = (number(0, EVENTS)?, number(1, SEED)?);
+    (arguments.len() <= 2).then_some(numbers)
+}
+
+/// The scripts, with what they reached; a run as long as the default one must reach everything.
+fn run_scripts(events: u64, seed: u64) -> Result<String, ()> {
+    let mut coverage = Coverage::default();
+    let scripts = scripts::run(events, seed, &mut coverage).map_err(|failure| {
+        report::print(&failure);
+    })?;
+    coverage.print();
+    let missing = coverage.missing();
+    if events >= EVENTS && !missing.is_empty() {
+        println!("the scripts never reached: {}", missing.join(", "));
+        return Err(());
+    }
+    Ok(format!("{} events in {scripts} scripts", coverage.events()))
+}
+
+fn run_devices(seed: u64) -> Result<String, ()> {
+    let tally = devices::run(DEVICES, seed).map_err(|failure| failure.print())?;
+    println!("{:>10} sound devices", tally.sound);
+    println!("{:>10} unsound devices", tally.unsound);
+    println!("{:>10} events on them accepted", tally.accepted);
+    println!("{:>10} events on them refused", tally.refused);
+    Ok(format!("{DEVICES} devices"))
+}
+
+fn run_frames(seed: u64) -> Result<String, ()> {
+    let requests = frames::run(seed).map_err(|failure| failure.print())?;
+    Ok(format!("{requests} frame requests"))
+}
+
+fn run_all(events: u64, seed: u64) -> Result<(), ()> {
+    let scripts = run_scripts(events, seed)?;
+    let devices = run_devices(seed)?;
+    let frames = run_frames(seed)?;
+    println!("{scripts}, {devices}, {frames}: the chip and the model do not differ");
+    Ok(())
+}
+
+fn main() -> ExitCode {
+    let Some((events, seed)) = arguments() else {
+        eprintln!("usage: differential [EVENTS [SEED]]");
+        return ExitCode::from(2);
+    };
+    match run_all(events, seed) {
+        Ok(()) => ExitCode::SUCCESS,
+        Err(()) => ExitCode::FAILURE,
+    }
+}
