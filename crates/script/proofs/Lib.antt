@@ -1,0 +1,1 @@
+-- The proofs of a script's reading: each function has a file of its own.

@@ -1,0 +1,2 @@
+-- The laws of the text. Assumes nothing.
+pub mod Text
