@@ -3,13 +3,13 @@ use device::Device;
 use device::fresh;
 use device::is_sound;
 use duart::Answer;
-use duart::step;
 use records::EventRecord;
 use records::Seen;
 use records::event_of;
 use records::seen_of;
 use request::FrameAnswer;
 use request::request_frame;
+use swift::swift_step;
 ghost use mathlib.Core.Path.{_≡_};
 ghost use lib.ListN.{length};
 ghost use Rattle.device.specs.Device.{freshDevice, isSoundOf};
@@ -22,7 +22,7 @@ ghost use Rattle.board.specs.Board.{seenIn};
 fn step_record(device: Device, event: EventRecord) -> Answer
     ensures { λ r. ⌜ r ≡ stepOf device (eventOf event) ⌝ }
 {
-    step(device, event_of(event))
+    swift_step(device, event_of(event))
 }
 
 // A walk moves whole values only, so the parts of an answer are taken here.

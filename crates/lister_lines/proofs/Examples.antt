@@ -1,6 +1,6 @@
 -- The example of document 01, from what is printed for any bytes. Assumes nothing.
 use mathlib.Core.Path.{_≡_, refl, _∙_}
-use mathlib.Core.List.{List, [], _∷_}
+use mathlib.Core.List.{[], _∷_}
 use Rattle.format.specs.Digits.{bitsOf}
 use Rattle.format.specs.Pick.{pick}
 use Rattle.listing.specs.Listing.{textOf, printed, frameText, framesText}

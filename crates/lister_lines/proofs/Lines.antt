@@ -2,8 +2,8 @@
 -- frame, bit by bit. Assumes nothing.
 use Prim.Native.Nat.{ℕ, _+_}
 use mathlib.Core.Path.{_≡_, refl, _∙_, ap, subst}
-use mathlib.Core.Bool.{Bool, true}
-use mathlib.Core.List.{List, [], _∷_, _++_}
+use mathlib.Core.Bool.{true}
+use mathlib.Core.List.{List, [], _∷_}
 use native.Mathlib.Omega.{arith}
 use lib.ListN.{getD}
 use Rattle.format.specs.Digits.{bitsOf}
@@ -28,7 +28,6 @@ use Rattle.front_events.specs.NotModelled.{writeNotModelled, settingNotModelled
 use Rattle.device.specs.declared.device.Device.{Device}
 use Rattle.device.specs.Device.{freshDevice}
 use Rattle.refusals.specs.Refusals.{acknowledgedUnasserted, firstOf}
-use Rattle.duart.specs.declared.duart.Answer.{Answer}
 use Rattle.duart.specs.Duart.{takenOf, numberOf, stepOf}
 use Rattle.ticking.specs.Ticking.{ticked}
 use Rattle.listing.specs.Listing.{preparedDevice, lineOf, listedOf, linesFrom, printed, frameText, framesText}

@@ -3,7 +3,7 @@ use device::fresh;
 use duart::Answer;
 use duart::step;
 use events::Event;
-use ticking::at_rest;
+use swift::at_rest;
 
 pub struct Bench {
     pub answer: Answer,

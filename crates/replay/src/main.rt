@@ -14,7 +14,7 @@ use script::next_place;
 use script::tell;
 use script_text::write_error;
 use script_text::write_seen;
-use ticking::at_rest;
+use swift::at_rest;
 use ticking::tick_times;
 
 // The device so far, and where in the script we are.

@@ -5,9 +5,8 @@ use mathlib.Core.Path.{_≡_, refl, sym, ap, _∙_}
 use mathlib.Core.Bool.{Bool, true, false, _&&_, true≢false}
 use mathlib.Core.List.{List, [], _∷_}
 use native.Mathlib.Omega.{arith}
-use lib.Dec.{eqb, leb}
 use Rattle.format.specs.Pick.{pick}
-use Rattle.events.specs.declared.events.Event.the-variants.{ChipReset, Read, Write, Acknowledge, Pins}
+use Rattle.events.specs.declared.events.Event.the-variants.{Read, Write, Pins}
 use Rattle.script.specs.declared.lines.Line.{Line}
 use Rattle.script.specs.declared.lines.Line.the-variants.{Skipped, Wrong, Ticks, One}
 use Rattle.script.specs.Script.{piecesOf, fullOf, sameOf, hashOf, valueOf, upTo, tickText, readText, pinsText, writeText, said, meantOf}

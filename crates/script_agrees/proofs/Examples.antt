@@ -1,11 +1,9 @@
 -- What lines of each kind mean, computed. Assumes nothing.
-use Prim.Native.Nat.{ℕ}
 use mathlib.Core.Path.{_≡_, refl}
 use mathlib.Core.Bool.{true, false}
-use mathlib.Core.List.{List, [], _∷_, _++_}
+use mathlib.Core.List.{[], _∷_, _++_}
 use Rattle.format.specs.Pick.{pick}
 use Rattle.events.specs.declared.events.Event.the-variants.{ChipReset, Read, Write, Acknowledge, Pins}
-use Rattle.script.specs.declared.lines.Line.{Line}
 use Rattle.script.specs.declared.lines.Line.the-variants.{Skipped, Wrong, Ticks, One}
 use Rattle.script.specs.Script.{piecesOf, fullOf, sameOf, hashOf, allDigits, valueFrom, said, meantOf, lineOf, resetText, readText, writeText, ackText, pinsText, tickText}
 use Rattle.script_text.specs.Text.{decimalOf, seenText, errorText}

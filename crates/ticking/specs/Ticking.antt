@@ -1,14 +1,8 @@
 -- Many ticks in a row: each is an event of its own, and the last answer counts. Assumes nothing.
 use Prim.Native.Nat.{ℕ, zero, suc}
-use Rattle.device.specs.declared.device.Device.{Device}
-use Rattle.device.specs.Device.{deviceLines}
 use Rattle.events.specs.declared.events.Event.the-variants.{Tick}
 use Rattle.duart.specs.declared.duart.Answer.{Answer}
 use Rattle.duart.specs.Duart.{stepOf}
-
--- before any event: "accepted", no data, and the lines as this state drives them
-abbrev pub atRest : Device → Answer
-atRest d = record { number = 0; byte = 0; lines = deviceLines d; state = d }
 
 -- the last answer, after so many ticks more
 unfoldable pub ticked : ℕ → Answer → Answer

@@ -1,5 +1,4 @@
 // Many ticks of the crystal in a row, each an event of its own.
 mod ticking;
 
-pub use ticking::at_rest;
 pub use ticking::tick_times;

@@ -2,6 +2,7 @@
 //! idle, and with both channels sending and receiving. What counts is the ratio of the two, and each against real time;
 //! the times themselves are the machine's.
 
+use std::hint::black_box;
 use std::time::{Duration, Instant};
 
 /// The crystal's ticks a second.
@@ -9,7 +10,9 @@ const REAL_TIME: f64 = 3_686_400.0;
 const ROUNDS: usize = 15;
 const TICKS_A_ROUND: u32 = 1_000_000;
 
-/// A chip that is timed: the events of the model, and what it answers, as far as the wiring asks.
+/// A chip that is timed: the events of the model, and what it answers, as far as the wiring asks. As on a board,
+/// the event is not known beforehand and the whole answer is made: `black_box` keeps the compiler from making a step for ticks
+/// alone, or leaving out what nobody reads, which it could do with the model and not with the archive.
 trait Chip {
     fn fresh() -> Self;
     /// TxDA, TxDB and the data byte of the answer.
@@ -22,7 +25,7 @@ impl Chip for model::Chip {
     }
 
     fn step(&mut self, event: model::Event) -> (bool, bool, u8) {
-        let seen = model::Chip::step(self, event);
+        let seen = black_box(model::Chip::step(self, black_box(event)));
         (seen.txda, seen.txdb, seen.data)
     }
 }
@@ -41,7 +44,7 @@ impl Chip for duart::Duart {
             model::Event::Pins(levels) => duart::Event::Pins(levels),
             model::Event::Tick => duart::Event::Tick,
         };
-        let seen = duart::Duart::step(self, event);
+        let seen = black_box(duart::Duart::step(self, black_box(event)));
         (seen.txda, seen.txdb, seen.data)
     }
 }

@@ -23,7 +23,7 @@ use Rattle.device.specs.declared.device.Device.{Device}
 use Rattle.device.specs.Device.{isSoundOf}
 use Rattle.refusals.specs.Refusals.{acknowledgedUnasserted, firstOf}
 use Rattle.duart.specs.declared.duart.Answer.{Answer}
-use Rattle.duart.specs.Duart.{takenOf, acceptedOf, stepOf}
+use Rattle.duart.specs.Duart.{takenOf, stepOf}
 use Rattle.duart.proofs.Laws.Table.{accepts}
 use Rattle.chip.proofs.Sound.{keeps-sound}
 use Rattle.ticking.specs.Ticking.{ticked}

@@ -1,19 +1,17 @@
 -- What is read of a line is a summary of its words: a byte more takes the summary of the words so far to that of the words with the byte.
 -- Assumes nothing.
 use Prim.{tt}
-use Prim.Native.Nat.{ℕ, _<_}
-use mathlib.Core.Path.{_≡_, refl, sym, ap, _∙_}
+use Prim.Native.Nat.{ℕ}
+use mathlib.Core.Path.{_≡_, refl, ap, _∙_}
 use mathlib.Core.Bool.{Bool, true, false}
 use mathlib.Core.List.{List, [], _∷_, _++_, append-nil, append-assoc}
-use lib.Dec.{eqb}
 use lib.Seq.{append-snoc}
 use Rattle.format.specs.Pick.{pick}
 use Rattle.format.proofs.Laws.Pick.{pick-yes, pick-no}
 use Rattle.script.specs.declared.reading.Reading.{Reading}
-use Rattle.script.specs.declared.lines.Line.{Line}
 use Rattle.script.specs.Bytes.{blankOf}
 use Rattle.script.specs.Script.{before, piecesOf, kept, fullOf, hashOf}
-use Rattle.script.specs.Reading.{started, nameAfter, numberAfter, commentAfter, wordsAfter, begunOf, addedOf, outside, takenOf, takenAll}
+use Rattle.script.specs.Reading.{started, commentAfter, wordsAfter, begunOf, addedOf, takenOf, takenAll}
 use Rattle.script.specs.Lines.{toldOf}
 use Rattle.script.specs.Agrees.{AreBytes}
 use Rattle.script_agrees.proofs.Laws.Names.{nameFrom, name-snoc}

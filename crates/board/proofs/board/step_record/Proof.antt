@@ -6,11 +6,11 @@ use Rattle.board.proofs.board.step_record.Tie as tie
 event-of-requires : tie.Need-event-of-requires
 event-of-requires c κs = tt
 
-step-requires : tie.Need-step-requires
-step-requires c κs = tt
+swift-step-requires : tie.Need-swift-step-requires
+swift-step-requires c κs = tt
 
 returns : tie.Need-returns
-returns c = simp (c .step .ensures, c .before .event-of .ensures)
+returns c = simp (c .swift-step .ensures, c .before .event-of .ensures)
 
 pub step-record-spec : {M : Type 1} → statement M
-step-record-spec = tie.close (tie.spec event-of-requires step-requires returns)
+step-record-spec = tie.close (tie.spec event-of-requires swift-step-requires returns)

@@ -2,7 +2,6 @@
 use borrow.Author.Needs.{needs}
 use Rattle.script.proofs.reading.begin.Statement.{statement}
 use Rattle.script.proofs.reading.begin.Tie as tie
-use Rattle.format.proofs.Laws.{steps}
 use Rattle.script.specs.Reading.{begunOf}
 
 comment-after-requires : tie.Need-comment-after-requires

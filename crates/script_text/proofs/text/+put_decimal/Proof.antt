@@ -1,6 +1,6 @@
 -- `put_decimal` meets its contract: it calls itself with one place less for all digits but the last, and puts that after them. Assumes nothing.
 use Prim.Native.Nat.{ℕ, _<_}
-use mathlib.Core.Path.{_≡_, refl, sym, _∙_}
+use mathlib.Core.Path.{sym, _∙_}
 use mathlib.Core.List.{append-nil, append-assoc}
 use native.Mathlib.Omega.{arith}
 use lib.ListN.{take}

@@ -1,5 +1,5 @@
 -- `put_byte` meets its contract: first the number is put, and then the separator. Assumes nothing.
-use mathlib.Core.Path.{_≡_, refl, sym, _∙_}
+use mathlib.Core.Path.{_∙_}
 use native.Mathlib.Omega.{arith}
 use borrow.Author.Needs.{needs}
 use Rattle.script_text.proofs.text.put_byte.Statement.{statement}

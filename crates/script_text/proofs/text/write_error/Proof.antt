@@ -1,5 +1,5 @@
 -- `write_error` meets its contract: each part is put after those before it. Assumes nothing.
-use mathlib.Core.Path.{_≡_, refl, sym, _∙_}
+use mathlib.Core.Path.{sym, _∙_}
 use lib.Seq.{length-take-le}
 use borrow.Author.Needs.{needs}
 use Rattle.script_text.proofs.text.write_error.Statement.{statement}

@@ -17,8 +17,8 @@ abbrev μ-loop : tie.MeasureT-loop
 loop-holds : tie.Need-loop-holds Inv-loop μ-loop
 loop-holds c = refl
 
-step-requires : tie.Need-step-requires Inv-loop μ-loop
-step-requires c κs = tt
+swift-step-requires : tie.Need-swift-step-requires Inv-loop μ-loop
+swift-step-requires c κs = tt
 
 sub-left : tie.Need-sub-left Inv-loop μ-loop
 sub-left c = search needs
@@ -29,7 +29,7 @@ loop-less c = search needs
 loop-again : tie.Need-loop-again Inv-loop μ-loop
 loop-again c =
     let at = c .before .before .before .loop in
-    rw (c .step .ensures) (sym (ticked-one (at .left) (at .last) (omega arith)) ∙ at .inv)
+    rw (c .swift-step .ensures) (sym (ticked-one (at .left) (at .last) (omega arith)) ∙ at .inv)
 
 returns : tie.Need-returns Inv-loop μ-loop
 returns c =
@@ -40,4 +40,4 @@ returns c =
 pub tick-times-spec : {M : Type 1} → statement M
 tick-times-spec =
     tie.close
-    (tie.spec Inv-loop μ-loop loop-holds step-requires sub-left loop-less loop-again returns)
+    (tie.spec Inv-loop μ-loop loop-holds swift-step-requires sub-left loop-less loop-again returns)

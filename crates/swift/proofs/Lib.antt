@@ -1,0 +1,2 @@
+-- The proofs of the short way.
+pub mod Laws

@@ -1,0 +1,52 @@
+-- The short way of a tick of a sound device. Assumes nothing.
+use Prim.Native.Nat.{_/_}
+use mathlib.Core.Bool.{Bool, true, false, _&&_}
+use lib.Dec.{eqb}
+use Rattle.format.specs.Pick.{pick}
+use Rattle.counting.specs.declared.counting.Counted.{Counted}
+use Rattle.counting.specs.Counting.{modeOf}
+use Rattle.timer.specs.Timer.{tickedBy}
+use Rattle.events.specs.declared.events.Event.{Event}
+use Rattle.events.specs.declared.events.Event.the-variants.{ChipReset, Read, Write, Acknowledge, Pins, Tick}
+use Rattle.front.specs.declared.front.Front.{Front}
+use Rattle.front_clocks.specs.Clocking.{tickedOf}
+use Rattle.receiver.specs.Receiver.{fedOf}
+use Rattle.device.specs.declared.device.Device.{Device}
+use Rattle.device.specs.Device.{deviceLines}
+use Rattle.duart.specs.declared.duart.Answer.{Answer}
+use Rattle.swift.specs.Quiet.{areStill, quietOf}
+
+unfoldable pub isTick : Event → Bool
+isTick ChipReset = false
+isTick (Read n) = false
+isTick (Write n byte) = false
+isTick Acknowledge = false
+isTick (Pins levels) = false
+isTick Tick = true
+
+-- accepted, no data, "lines as that state drives them"
+unfoldable pub atRest : Device → Answer
+atRest d = record { number = 0; byte = 0; lines = deviceLines d; state = d }
+
+-- the state after any tick
+unfoldable pub fullOf : Device → Device
+fullOf d =
+    record {
+      front = tickedOf (d .front) .front;
+      a = fedOf (d .a) (tickedOf (d .front) .a) .receiver;
+      b = fedOf (d .b) (tickedOf (d .front) .b) .receiver;
+    }
+
+-- the counter/timer in a tick
+abbrev pub countedIn : Front → Counted
+countedIn f = tickedBy (f .timer) (modeOf (f .acr))
+
+-- whether no clock of either channel has a pulse in it
+abbrev pub isQuiet : Front → Bool
+isQuiet f =
+    areStill (f .a .phases .receiver .0) (f .a .phases .transmitter .0) (eqb (f .acr / 128) 1) (f .a .csr) (countedIn f .toggled)
+    && areStill (f .b .phases .receiver .0) (f .b .phases .transmitter .0) (eqb (f .acr / 128) 1) (f .b .csr) (countedIn f .toggled)
+
+-- the quiet way where it can be gone
+unfoldable pub tickAnswer : Device → Answer
+tickAnswer d = pick (isQuiet (d .front)) (atRest (quietOf d (countedIn (d .front) .timer))) (atRest (fullOf d))
