@@ -3,7 +3,6 @@ use device::fresh;
 use duart::Answer;
 use duart::step;
 use events::Event;
-use swift::at_rest;
 
 pub struct Bench {
     pub answer: Answer,
@@ -11,10 +10,10 @@ pub struct Bench {
     pub wired: bool,
 }
 
-// All pins high and no wire.
+// A chip just reset, all pins high and no wire.
 pub fn start() -> Bench {
     Bench {
-        answer: at_rest(fresh()),
+        answer: step(fresh(), Event::ChipReset),
         pins: 255,
         wired: false,
     }
