@@ -1,6 +1,6 @@
 /*
- * The height gauge on channel A sends one byte; the program reads it through the proved chip, then resets the receiver: no old
- * height is left. Prints what it saw, and ends with 0 if all was as it should be.
+ * The height gauge on channel A sends a byte, and the program reads it through the proved chip. It sends another, and the program
+ * resets the receiver: no old height is left. Prints what it saw, and ends with 0 if all was as it should be.
  */
 #include "duart.h"
 
@@ -70,6 +70,12 @@ int main(void)
 
     wrong += differs("a register above 15", event(DUART_READ, 16, 0).number, DUART_REGISTER_ABOVE_15);
     wrong += differs("an unknown kind", event(99, 0, 0).number, DUART_REGISTER_ABOVE_15);
+    wrong += differs("IMR", event(DUART_WRITE, 5, 0x02).number, DUART_ACCEPTED);
+    wrong += differs("its field", chip.front.imr, 0x02);
+    wrong += differs("IVR", event(DUART_WRITE, 12, 0x41).number, DUART_ACCEPTED);
+    wrong += differs("its field", chip.front.ivr, 0x41);
+    wrong += differs("the last byte read", chip.a.last, 42);
+    wrong += differs("bytes of a device", (unsigned)sizeof chip, 200);
     wrong += differs("sound", duart_sound(chip), 1);
     chip.a.queue.count = 200;
     wrong += differs("sound with 200 held", duart_sound(chip), 0);

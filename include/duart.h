@@ -2,13 +2,14 @@
  * The MC68681 serial chip (DUART), proved: what a board maker links.
  *
  * `rt staticlib board` writes target/staticlib/libboard.a, which holds the four functions below. Each is proved to
- * meet its contract (crates/board/src/board.rt) for every argument, so a caller owes no more than C itself does:
+ * meet its contract (crates/board/src/board.rt) for every argument, so a caller owes no more than this:
  *
  *  - pointers lead to what they say, and are used by no other thread during the call;
  *  - every field of a struct is a value of its type. A bool is 0 or 1 and nothing else: a device that was filled from a file
- *    or from the network byte by byte must have its bools tested first;
- *  - a device is made by duart_fresh() and altered by duart_step() only. One that was made in another way is answered with
- *    number 1 where it is unsound (docs/SOUND.md lists the ranges), and is left as it was.
+ *    or from the network byte by byte must have its bools tested first.
+ *
+ * A device is made by duart_fresh() and altered by duart_step() only. One that was made in another way is still answered: with
+ * number 1 where it is unsound (docs/SOUND.md lists the ranges), and it is left as it was.
  *
  * Nothing here allocates, blocks, keeps a pointer or holds state of its own: two devices are two chips.
  */
@@ -172,7 +173,7 @@ typedef struct duart_device {
 
 /* ---- one event, one answer ---- */
 
-/* The kinds of event. A kind above DUART_TICK is answered as a read of register 255: with 2, nothing altered. */
+/* The kinds of event. A kind above DUART_TICK is a read of register 255: refused, nothing altered. */
 enum {
     DUART_CHIP_RESET = 0,
     DUART_READ = 1,        /* register `reg` */
@@ -198,7 +199,7 @@ enum {
     DUART_FORBIDDEN_COMMAND = 4, /* command whose bits 3-2 or 1-0 are 11 */
     DUART_NOT_MODELLED = 5,      /* a write, or a frame request, that chooses a setting which is not modelled */
     DUART_NOT_ASSERTED = 6,      /* an acknowledge while IRQ is not asserted */
-    DUART_NEW_UNSOUND = 7,       /* the new state would be unsound: never given on a sound state */
+    DUART_NEW_UNSOUND = 7,       /* the new state would be unsound: proved never to be given */
     DUART_SPACE_SHORT = 8        /* a frame request's space is shorter than the frame */
 };
 

@@ -30,7 +30,7 @@ use Rattle.device.specs.Device.{freshDevice}
 use Rattle.refusals.specs.Refusals.{acknowledgedUnasserted, firstOf}
 use Rattle.duart.specs.Duart.{takenOf, numberOf, stepOf}
 use Rattle.ticking.specs.Ticking.{ticked}
-use Rattle.listing.specs.Listing.{preparedDevice, lineOf, listedOf, linesFrom, printed, frameText, framesText}
+use Rattle.listing.specs.Listing.{preparedDevice, lineOf, listedOf, linesFrom, frameText, framesText, Prints}
 use Rattle.lister_lines.proofs.Laws.Going.{Going, Shows, sideTicked, side-more, write-shows, ticks-show}
 use Rattle.lister_lines.proofs.Laws.Sides.{preparedSide, startedSide, sentSide, frameLevel, first-starts, next-starts, sent}
 
@@ -94,7 +94,7 @@ unfolding preparedDevice stepOf numberOf firstOf acknowledgedUnasserted takenOf 
 prepared-going = record { sound = refl; side = refl; acr = refl; levels = refl; coded = refl }
 
 -- the line of each byte is that of its frame
-pub lines : (bytes : List ℕ) → printed bytes ≡ framesText bytes
+pub lines : Prints
 unfolding linesFrom framesText
 lines [] = refl
 lines (byte ∷ bytes) =

@@ -1,5 +1,6 @@
 -- "The frame lister (program) sends standard input on A as in case 4, one line of ten mid-bit levels per byte, no header." Assumes nothing.
 use Prim.Native.Nat.{ℕ, _+_, _*_}
+use mathlib.Core.Path.{_≡_}
 use mathlib.Core.Bool.{Bool, true, false}
 use mathlib.Core.List.{List, [], _∷_, _++_, map}
 use Rattle.format.specs.Digits.{bitsOf}
@@ -62,3 +63,7 @@ frameText byte = map textOf (false ∷ bitsOf 8 byte ++ true ∷ []) ++ 10 ∷ [
 unfoldable pub framesText : List ℕ → List ℕ
 framesText [] = []
 framesText (byte ∷ bytes) = frameText byte ++ framesText bytes
+
+-- for every input, whatever its length: the levels on the left are TxDA of the step's own answers. The crate `lister_lines` proves it.
+abbrev pub Prints : Type 0
+Prints = (bytes : List ℕ) → printed bytes ≡ framesText bytes

@@ -1,6 +1,6 @@
 // The manuals' worked examples, run on the chip and compared with what they should be. One line an
-// example: its name and source, what came, and what the comparison says: "as the manual says", or "01
-// decides" with what document 01 fixes where the manual is open, or says another thing, or DIFFERS.
+// example: its name and source, what came, and what the comparison says: that it is as the manual says, or that 01 decides
+// and what it fixes, where the manual is open or says another thing, or DIFFERS. Quotations here are the manuals'.
 mod bench;
 mod break_change;
 mod command_table;

@@ -1,5 +1,5 @@
 // Replays a script from standard input on a fresh device. What a line says and which line it is are the crate `script`'s,
-// the text of what is printed `script_text`'s; the device is `duart`'s.
+// the text of what is printed `script_text`'s; the answers are the chip's.
 use device::Device;
 use device::fresh;
 use duart::Answer;

@@ -1,5 +1,5 @@
-//! The sizes of what crosses into the archive, as include/duart.h has them: a field too many or too few in
-//! host/duart stops the build here.
+//! The sizes of what crosses into the archive, as include/duart.h has them. That each field is where the archive
+//! has it is shown by the drawn devices, whose soundness the archive tells from their fields.
 
 use std::mem::size_of;
 

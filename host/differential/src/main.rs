@@ -71,7 +71,7 @@ fn run_all(events: u64, seed: u64) -> Result<(), ()> {
     let scripts = run_scripts(events, seed)?;
     let devices = run_devices(seed)?;
     let frames = run_frames(seed)?;
-    println!("{scripts}, {devices}, {frames}: the chip and the model do not differ");
+    println!("{scripts} and {frames}: the chip and the model do not differ; {devices}: sound or refused as they should be");
     Ok(())
 }
 

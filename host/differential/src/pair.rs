@@ -63,7 +63,7 @@ impl Pair {
     }
 }
 
-/// What a record says: "kinds 0 to 5 in the order of Event", and a kind above 5 is a read of register 255.
+/// What a record says: kinds 0 to 5 are in the order of `Event`, and a kind above 5 is a read of register 255.
 fn meaning(record: EventRecord) -> model::Event {
     match record.kind {
         0 => model::Event::ChipReset,

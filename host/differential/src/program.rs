@@ -210,7 +210,7 @@ impl Script<'_> {
         self.drive(pin, high)
     }
 
-    /// A record of any bytes. A chip reset among them keeps its byte 0, as it is for later editions.
+    /// A record of any bytes but a chip reset's.
     fn any_record(&mut self) -> Stepped {
         let kind = self.draws.pick(&[1, 2, 3, 4, 5, 6, 7, 128, 255]);
         let (reg, byte) = (self.draws.small(20), self.draws.byte());

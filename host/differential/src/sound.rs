@@ -14,17 +14,17 @@ pub fn is_sound(device: &Device) -> bool {
         && is_sound_receiver(&device.b)
 }
 
-/// "bit 7 clear, and bits 4-3 not 11"
+/// MR1: bit 7 clear, and bits 4-3 not 11.
 pub fn is_accepted_mr1(mr1: u8) -> bool {
     mr1 & 0x80 == 0 && mr1 & 0x18 != 0x18
 }
 
-/// "bits 7 to 5 clear"
+/// MR2: bits 7 to 5 clear.
 pub fn is_accepted_mr2(mr2: u8) -> bool {
     mr2 & 0xe0 == 0
 }
 
-/// "bits 1-0 clear, and bit 3 clear"
+/// OPCR: bits 1-0 clear, and bit 3 clear.
 pub fn is_accepted_opcr(opcr: u8) -> bool {
     opcr & 0x0b == 0
 }
@@ -43,7 +43,7 @@ fn is_sound_transmitter(transmitter: &Transmitter) -> bool {
         && transmitter.left.0 <= 15
 }
 
-/// "0 to 4607 ticks: the longest period is 4608"
+/// 0 to 4607 ticks: the longest period is 4608.
 fn are_sound_phases(phases: &Phases) -> bool {
     phases.receiver.0 <= 4607 && phases.transmitter.0 <= 4607 && phases.sixteenths.0 <= 15
 }
@@ -52,7 +52,7 @@ fn is_sound_timer(timer: &Timer) -> bool {
     timer.ticks.0 <= 15 && timer.edges.0 <= 15
 }
 
-/// "`count` is 4 only while `phase` is not 2"
+/// `count` is 4 only while `phase` is not 2.
 fn is_sound_receiver(receiver: &Receiver) -> bool {
     let confirmed_start = receiver.sampler.phase == 2;
     is_sound_sampler(&receiver.sampler)

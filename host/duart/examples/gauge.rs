@@ -1,4 +1,4 @@
-//! The height gauge on channel A sends one byte at 9600 bits a second, 8 data bits, no parity, one stop bit; the program
+//! The height gauge on channel A sends a byte at 9600 bits a second, 8 data bits, no parity, one stop bit; the program
 //! programs the chip, waits for the ready bit and reads the byte.
 
 use duart::{Duart, Event};
@@ -37,5 +37,7 @@ fn main() {
     send(&mut chip, 42);
     let status = chip.step(Event::Read(1)).data;
     assert_eq!(status & 1, 1, "RxRDY is not set");
-    println!("status {status}, the gauge says {}", chip.step(Event::Read(3)).data);
+    let height = chip.step(Event::Read(3)).data;
+    assert_eq!(height, 42, "another byte than the gauge sent");
+    println!("status {status}, the gauge says {height}");
 }

@@ -1,5 +1,5 @@
-//! The four names of the archive, as include/duart.h declares them. Nothing checks these lines against the Rattle source:
-//! the differential test does.
+//! The four names of the archive, as include/duart.h declares them. No compiler checks these lines against the Rattle source;
+//! the differential test would show where they differ.
 
 use crate::device::Device;
 use crate::{EventRecord, FrameAnswer, Seen};

@@ -26,6 +26,7 @@ use Rattle.duart.specs.declared.duart.Answer.{Answer}
 use Rattle.duart.specs.Duart.{takenOf, stepOf}
 use Rattle.duart.proofs.Laws.Table.{accepts}
 use Rattle.chip.proofs.Sound.{keeps-sound}
+use Rattle.swift.proofs.Laws.Ticked.{tick-free}
 use Rattle.ticking.specs.Ticking.{ticked}
 
 -- ---- A's side alone ----
@@ -76,10 +77,6 @@ pub record Shows (a : Answer) (s : Side) : Type 0 where
   pub line : a .lines .txda ≡ s .transmitter .txd
 
 -- ---- an event on it ----
-
-tick-free : (d : Device) → isSoundOf d ≡ true → firstOf d Tick 0 ≡ 0
-unfolding firstOf registerAbove15 forbiddenRead forbiddenCommand settingNotModelled acknowledgedUnasserted pick
-tick-free d s = rw s
 
 write-free : (d : Device) (byte : ℕ) → isSoundOf d ≡ true → firstOf d (Write 3 byte) 0 ≡ 0
 unfolding firstOf registerAbove15 forbiddenRead forbiddenCommand settingNotModelled writeNotModelled acknowledgedUnasserted pick

@@ -1,5 +1,4 @@
--- A clock that is still in a tick has no pulse and goes on to its next phase: a channel's two clocks, then the whole side, whose transmitter
--- stays and whose receiver is handed nothing, then the front, where no pin moves. Assumes nothing.
+-- A clock that is still in a tick has no pulse and goes on to its next phase: one clock, then a channel's two. Assumes nothing.
 use Prim.Native.Nat.{ℕ, _+_, _/_, _%_, _<_, _≤_}
 use mathlib.Core.Path.{_≡_, refl, sym, _∙_}
 use mathlib.Core.Bool.{Bool, true, false, not, _||_, and-eq-true-iff, true≢false}

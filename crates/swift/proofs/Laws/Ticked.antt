@@ -1,4 +1,5 @@
--- The answer to a tick of a sound device: it is accepted, its state is the tick's, and a quiet tick's is the quiet one. Assumes nothing.
+-- The answer to a tick of a sound device: it is accepted, and its state is the tick's. In a quiet tick no pin moves, a side's transmitter stays and its
+-- receiver is handed nothing, so that state is the quiet one. Assumes nothing.
 use Prim.Native.Nat.{ℕ, _/_}
 use mathlib.Core.Path.{_≡_, refl, sym, ap, _∙_}
 use mathlib.Core.Bool.{Bool, true, false, not, _&&_, _||_, and-eq-true-iff, true≢false}
@@ -97,7 +98,8 @@ device-quiet d h = rw (front-quiet (d .front) h)
 
 -- ---- the answer ----
 
-tick-free : (d : Device) → isSoundOf d ≡ true → firstOf d Tick 0 ≡ 0
+-- no row refuses a tick of a sound device
+pub tick-free : (d : Device) → isSoundOf d ≡ true → firstOf d Tick 0 ≡ 0
 unfolding firstOf registerAbove15 forbiddenRead forbiddenCommand settingNotModelled acknowledgedUnasserted pick
 tick-free d s = rw s
 

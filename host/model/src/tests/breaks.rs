@@ -11,18 +11,18 @@ fn in_a_break(csr: u8) -> Board {
     board
 }
 
-/// A2: a break is no character, so TxEMT and TxRDY go by their definitions.
+/// A break is no character, so TxEMT and TxRDY go by their definitions.
 #[test]
-fn a2_status_in_a_break() {
+fn status_in_a_break() {
     let mut board = in_a_break(PINS_16X);
     assert_eq!(board.sr(), 12);
     board.command(STOP_BREAK);
     assert_eq!(board.sr(), 12);
 }
 
-/// A3 and B16: TxD is high in the same event, for 16 pulses or 1, and the start is on the pulse after.
+/// TxD is high in the same event, for 16 pulses or 1, and the start is on the pulse after.
 #[test]
-fn a3_high_bit() {
+fn high_bit() {
     for (csr, pulses) in [(PINS_16X, 16), (PINS_1X, 1)] {
         for command in [STOP_BREAK, DISABLE_TRANSMITTER, RESET_TRANSMITTER] {
             let mut board = in_a_break(csr);
@@ -35,9 +35,9 @@ fn a3_high_bit() {
     }
 }
 
-/// A4: a reset in the high bit leaves it owed; a chip reset owes nothing.
+/// A reset in the high bit leaves it owed; a chip reset owes nothing.
 #[test]
-fn a4_resets_and_the_high_bit() {
+fn resets_and_the_high_bit() {
     let mut board = in_a_break(PINS_16X);
     board.command(STOP_BREAK);
     board.sends(5);
@@ -53,9 +53,9 @@ fn a4_resets_and_the_high_bit() {
     assert_eq!(board.send_pulses_until_low(), Some(1));
 }
 
-/// A5: 16 or 1 goes by CSR as it stands; a pulse at 1X completes the bit, the one after may start.
+/// 16 or 1 goes by CSR as it stands; a pulse at 1X completes the bit, the one after may start.
 #[test]
-fn a5_csr_changed_in_the_high_bit() {
+fn csr_changed_in_the_high_bit() {
     let mut board = in_a_break(PINS_16X);
     board.command(STOP_BREAK);
     board.write(3, 0);
@@ -70,9 +70,9 @@ fn a5_csr_changed_in_the_high_bit() {
     assert_eq!(board.send_pulses_until_low(), Some(17));
 }
 
-/// A6: pulses count toward the high bit with the transmitter disabled.
+/// Pulses count toward the high bit with the transmitter disabled.
 #[test]
-fn a6_high_bit_while_disabled() {
+fn high_bit_while_disabled() {
     let mut board = in_a_break(PINS_16X);
     board.command(DISABLE_TRANSMITTER);
     board.sends(10);
@@ -81,9 +81,9 @@ fn a6_high_bit_while_disabled() {
     assert_eq!(board.send_pulses_until_low(), Some(7));
 }
 
-/// A7: start break in a break is nothing; in the high bit it is a new break, after the bit.
+/// Start break in a break is nothing; in the high bit it is a new break, after the bit.
 #[test]
-fn a7_start_break_again() {
+fn start_break_again() {
     let mut board = in_a_break(PINS_16X);
     board.command(START_BREAK);
     board.command(STOP_BREAK);
@@ -101,9 +101,9 @@ fn a7_start_break_again() {
     assert_eq!(board.sends(16), "1 0111111111 00000".replace(' ', ""));
 }
 
-/// B14: a break does not look at CTS, which can be what lets it begin before a held character.
+/// A break does not look at CTS, which can be what lets it begin before a held character.
 #[test]
-fn b14_break_before_a_character_that_cts_stops() {
+fn break_before_a_character_that_cts_stops() {
     let mut board = Board::on_pins(PINS_1X, ENABLE_TRANSMITTER);
     board.mode(0x13, 0x17);
     board.write(3, 255);
@@ -115,18 +115,18 @@ fn b14_break_before_a_character_that_cts_stops() {
     assert_eq!(board.sends(4), "1011");
 }
 
-/// B15: a character that can start beats a break asked earlier.
+/// A character that can start beats a break asked earlier.
 #[test]
-fn b15_character_before_break() {
+fn character_before_break() {
     let mut board = Board::on_pins(PINS_1X, ENABLE_TRANSMITTER);
     board.command(START_BREAK);
     board.write(3, 255);
     assert_eq!(board.sends(15), "011111111100000");
 }
 
-/// B16: a break not yet begun is just dropped.
+/// A break not yet begun is just dropped.
 #[test]
-fn b16_break_dropped() {
+fn break_dropped() {
     for command in [STOP_BREAK, DISABLE_TRANSMITTER, RESET_TRANSMITTER] {
         let mut board = Board::on_pins(PINS_16X, ENABLE_TRANSMITTER);
         board.command(START_BREAK);
@@ -138,9 +138,9 @@ fn b16_break_dropped() {
     }
 }
 
-/// B17: bits 6-4 first, then 3-2.
+/// Bits 6-4 first, then 3-2.
 #[test]
-fn b17_order_in_a_command() {
+fn order_in_a_command() {
     let mut board = Board::on_pins(PINS_1X, START_BREAK | ENABLE_TRANSMITTER);
     assert_eq!(board.send_pulses_until_low(), None, "ignored, then enabled");
     board.command(START_BREAK | DISABLE_TRANSMITTER);
@@ -151,9 +151,9 @@ fn b17_order_in_a_command() {
     assert_eq!(board.sr(), 12, "reset, then enabled");
 }
 
-/// B18: stop break in a frame changes nothing.
+/// Stop break in a frame changes nothing.
 #[test]
-fn b18_stop_break_in_a_frame() {
+fn stop_break_in_a_frame() {
     let mut board = Board::on_pins(PINS_16X, ENABLE_TRANSMITTER);
     board.write(3, 85);
     board.sends(5);

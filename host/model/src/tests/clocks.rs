@@ -38,9 +38,9 @@ fn ticks_per_pulse() {
     }
 }
 
-/// B1: the new levels are in force before everything, and the flags are set when an edge is a clock too.
+/// The new levels are in force before everything, and the flags are set when an edge is a clock too.
 #[test]
-fn b1_levels_first() {
+fn levels_first() {
     let mut board = Board::on_pins(PINS_1X, ENABLE_TRANSMITTER | ENABLE_RECEIVER);
     board.mode(0x13, 0x17);
     board.write(3, 0);
@@ -59,9 +59,9 @@ fn b1_levels_first() {
     assert_eq!(board.read(3), 254);
 }
 
-/// B2: the timer's toggle to high pulses all sides on code 13 in the same event; a start gives no pulse.
+/// The timer's toggle to high pulses all sides on code 13 in the same event; a start gives no pulse.
 #[test]
-fn b2_timer_clock() {
+fn timer_clock() {
     let mut board = holding(0x60, 0xDD);
     board.preload(2);
     board.start_counter();
@@ -86,9 +86,9 @@ fn b2_timer_clock() {
     assert!(!board.high(IP2).txda, "toggled to high, in a pin event");
 }
 
-/// B2: all four sides at once on code 13; none in counter mode.
+/// All four sides at once on code 13; none in counter mode.
 #[test]
-fn b2_all_sides_on_the_timer() {
+fn all_sides_on_the_timer() {
     let mut board = Board::fresh();
     for first in [0, 8] {
         board.write(first, 0x13);
@@ -112,9 +112,9 @@ fn b2_all_sides_on_the_timer() {
     assert_eq!([board.read(1) & 1, board.read(9) & 1], [1, 1]);
 }
 
-/// B3: one pin event may pulse all four sides; ticks never pulse codes 14 and 15.
+/// One pin event may pulse all four sides; ticks never pulse codes 14 and 15.
 #[test]
-fn b3_one_pin_event_four_pulses() {
+fn one_pin_event_four_pulses() {
     let mut board = Board::fresh();
     for first in [0, 8] {
         board.write(first, 0x13);
@@ -138,9 +138,9 @@ fn b3_one_pin_event_four_pulses() {
     assert_eq!(board.count(), 89);
 }
 
-/// B3: pin events never advance the dividers.
+/// Pin events never advance the dividers.
 #[test]
-fn b3_pins_and_dividers() {
+fn pins_and_dividers() {
     let mut board = holding(0, 12);
     for _ in 0..20 {
         board.low(IP3 | IP4);
@@ -149,10 +149,10 @@ fn b3_pins_and_dividers() {
     assert_eq!(ticks_until_start(&mut board), Some(6));
 }
 
-/// B4, B43: a CSR write restarts the channel's phases with the same value too; an ACR write restarts all
+/// A CSR write restarts the channel's phases with the same value too; an ACR write restarts all
 /// four, only if bit 7 changes.
 #[test]
-fn b4_restarts() {
+fn restarts() {
     for (event, ticks_then) in [
         (Event::Write(1, 0xBB), 24),
         (Event::Write(1, 0x0B), 24),
@@ -170,9 +170,9 @@ fn b4_restarts() {
     }
 }
 
-/// B5: the dividers run with the sides disabled, from the chip reset (code 0).
+/// The dividers run with the sides disabled, from the chip reset (code 0).
 #[test]
-fn b5_dividers_always_run() {
+fn dividers_always_run() {
     let mut board = Board::fresh();
     board.ticks(4600);
     board.command(ENABLE_TRANSMITTER);

@@ -32,9 +32,9 @@ fn op3(board: &mut Board) -> bool {
     board.lines().op & 8 != 0
 }
 
-/// A14: neither a start nor a change of ACR clears ISR bit 3; stop does.
+/// Neither a start nor a change of ACR clears ISR bit 3; stop does.
 #[test]
-fn a14_isr_bit_3() {
+fn isr_bit_3() {
     let mut board = started(TIMER_ON_TICKS, 1);
     board.ticks(2);
     board.start_counter();
@@ -47,10 +47,10 @@ fn a14_isr_bit_3() {
     assert!(!board.isr_bit_3());
 }
 
-/// A15, B7, B45: the counter from a 1X transmitter clock: each 16th 16X pulse since the CSR write, or each
+/// The counter from a 1X transmitter clock: each 16th 16X pulse since the CSR write, or each
 /// 1X pulse; pulses count with the transmitter disabled.
 #[test]
-fn a15_counter_on_a_transmitter_clock() {
+fn counter_on_a_transmitter_clock() {
     for (acr, csr_register, pin) in [(COUNTER_ON_TXCA, 1, IP3), (COUNTER_ON_TXCB, 9, IP5)] {
         let pulse = |board: &mut Board, pulses| {
             for _ in 0..pulses {
@@ -83,9 +83,9 @@ fn a15_counter_on_a_transmitter_clock() {
     }
 }
 
-/// B7: timer modes have no such source, and each channel's clock is its own counter mode's only.
+/// Timer modes have no such source, and each channel's clock is its own counter mode's only.
 #[test]
-fn b7_other_modes() {
+fn other_modes() {
     for acr in [COUNTER_ON_IP2, COUNTER_ON_TXCB, TIMER_ON_IP2] {
         let mut board = started(acr, 100);
         board.write(1, PINS_1X);
@@ -94,17 +94,17 @@ fn b7_other_modes() {
     }
 }
 
-/// A16: a read of 6, 7 shows the count as it stands, in timer modes and while running.
+/// A read of 6, 7 shows the count as it stands, in timer modes and while running.
 #[test]
-fn a16_count_shows() {
+fn count_shows() {
     let mut board = started(TIMER_ON_TICKS, 0x0203);
     board.ticks(4);
     assert_eq!((board.read(6), board.read(7)), (0x01, 0xFF));
 }
 
-/// A17: loaded 0 does not reach 0; terminal after 65,536, and a counter that goes on reaches 0 again.
+/// Loaded 0 does not reach 0; terminal after 65,536, and a counter that goes on reaches 0 again.
 #[test]
-fn a17_preload_0_and_the_wrap() {
+fn preload_0_and_the_wrap() {
     let mut board = started(COUNTER_ON_TICKS_16, 0);
     assert!(!board.isr_bit_3());
     board.ticks(16);
@@ -123,9 +123,9 @@ fn a17_preload_0_and_the_wrap() {
     assert_eq!(board.ticks_until(200_000, Board::isr_bit_3), Some(131_072));
 }
 
-/// A18: a change between two counter modes halts and reloads; between two timer modes it runs on.
+/// A change between two counter modes halts and reloads; between two timer modes it runs on.
 #[test]
-fn a18_change_of_mode() {
+fn change_of_mode() {
     let mut board = started(COUNTER_ON_TICKS_16, 9);
     board.ticks(16);
     board.write(4, COUNTER_ON_IP2);
@@ -143,9 +143,9 @@ fn a18_change_of_mode() {
     assert_eq!(board.count(), 8, "runs without a start");
 }
 
-/// B43: an ACR write that leaves bits 6-4 as they are does not reload; one that changes both does both.
+/// An ACR write that leaves bits 6-4 as they are does not reload; one that changes both does both.
 #[test]
-fn b43_acr_writes() {
+fn acr_writes() {
     let mut board = started(TIMER_ON_TICKS, 9);
     board.ticks(4);
     board.write(4, TIMER_ON_TICKS | 0x8F);
@@ -155,9 +155,9 @@ fn b43_acr_writes() {
     assert_eq!(board.count(), 9);
 }
 
-/// B6: both /16 phases run in every mode, and only a chip reset sets them to 0.
+/// Both /16 phases run in every mode, and only a chip reset sets them to 0.
 #[test]
-fn b6_sixteenths() {
+fn sixteenths() {
     let mut board = Board::fresh();
     board.ticks(5);
     board.preload(1);
@@ -182,9 +182,9 @@ fn b6_sixteenths() {
     assert_eq!(edges, Some(11 + 16));
 }
 
-/// B8: preload writes do not touch the count; they act at the next load.
+/// Preload writes do not touch the count; they act at the next load.
 #[test]
-fn b8_preload() {
+fn preload() {
     let mut board = started(TIMER_ON_TICKS, 3);
     board.ticks(1);
     board.preload(0x0105);
@@ -193,9 +193,9 @@ fn b8_preload() {
     assert_eq!(board.count(), 0x0105);
 }
 
-/// B9: in timer modes stop clears the bit only; in counter modes it halts and the count stays.
+/// In timer modes stop clears the bit only; in counter modes it halts and the count stays.
 #[test]
-fn b9_stop() {
+fn stop() {
     let mut board = started(TIMER_ON_TICKS, 2);
     board.write(13, OP3_TIMER);
     board.ticks(6);
@@ -210,9 +210,9 @@ fn b9_stop() {
     assert_eq!(board.count(), 3);
 }
 
-/// B10: OP3 goes by ACR bit 6 as it stands; the output bits beneath are still altered.
+/// OP3 goes by ACR bit 6 as it stands; the output bits beneath are still altered.
 #[test]
-fn b10_op3() {
+fn op3_shows_the_counter_timer() {
     let mut board = started(TIMER_ON_TICKS, 2);
     board.write(13, OP3_TIMER);
     board.write(14, 0xFF);
@@ -231,9 +231,9 @@ fn b10_op3() {
     assert_eq!(board.lines().op, 0x0F);
 }
 
-/// B44: a start of a running counter reloads it and it runs on.
+/// A start of a running counter reloads it and it runs on.
 #[test]
-fn b44_start_again() {
+fn start_again() {
     let mut board = started(COUNTER_ON_TICKS_16, 5);
     board.ticks(32);
     board.start_counter();

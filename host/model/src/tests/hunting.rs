@@ -4,19 +4,19 @@ use super::board::*;
 
 const RECEIVING: u8 = ENABLE_RECEIVER;
 
-/// A8: only the sample at p+8 decides; highs at p+1 to p+7 are not looked at.
+/// Only the sample at p+8 decides; highs at p+1 to p+7 are not looked at.
 #[test]
-fn a8_only_p_plus_8_decides() {
+fn only_p_plus_8_decides() {
     let mut board = Board::on_pins(PINS_16X, RECEIVING);
     board.receive(1, "1 0 1111111 0");
     board.receive(16, "111111111");
     assert_eq!((board.sr(), board.read(3)), (RXRDY, 255));
 }
 
-/// A9: at 1X a break waits for its end, one high; after the low stop of another character the next low
+/// At 1X a break waits for its end, one high; after the low stop of another character the next low
 /// is a start.
 #[test]
-fn a9_after_a_low_stop_at_1x() {
+fn after_a_low_stop_at_1x() {
     let mut board = Board::on_pins(PINS_1X, RECEIVING);
     board.receive(1, "1 0 00000000 0 0000000000000000000000");
     assert_eq!(
@@ -34,9 +34,9 @@ fn a9_after_a_low_stop_at_1x() {
     assert_eq!((board.sr(), board.read(3)), (RXRDY, 2));
 }
 
-/// A10: after a 16X low stop 8 lows are counted though CSR is 1X; the 8th is p of a 1X character.
+/// After a 16X low stop 8 lows are counted though CSR is 1X; the 8th is p of a 1X character.
 #[test]
-fn a10_low_stop_at_16x_then_1x() {
+fn low_stop_at_16x_then_1x() {
     let mut board = Board::on_pins(PINS_16X, RECEIVING);
     board.receive(16, "1 0 10000000");
     board.receive_pulses(9, false);
@@ -49,9 +49,9 @@ fn a10_low_stop_at_16x_then_1x() {
     assert_eq!((board.sr(), board.read(3)), (RXRDY, 2));
 }
 
-/// A10: after a 1X low stop with CSR now 16X the next low is p of a 16X character.
+/// After a 1X low stop with CSR now 16X the next low is p of a 16X character.
 #[test]
-fn a10_low_stop_at_1x_then_16x() {
+fn low_stop_at_1x_then_16x() {
     let mut board = Board::on_pins(PINS_1X, RECEIVING);
     board.receive(1, "1 0 10000000 0");
     board.read(3);
@@ -63,9 +63,9 @@ fn a10_low_stop_at_1x_then_16x() {
     assert_eq!((board.sr(), board.read(3)), (RXRDY, 2));
 }
 
-/// A11: a break's end goes by CSR as it stands; the run of highs goes on over a CSR write.
+/// A break's end goes by CSR as it stands; the run of highs goes on over a CSR write.
 #[test]
-fn a11_breaks_end_by_csr() {
+fn breaks_end_by_csr() {
     for (csr, highs_before, csr_then, highs_then) in [
         (PINS_16X, 0, PINS_16X, 8),
         (PINS_16X, 0, PINS_1X, 1),
@@ -99,9 +99,9 @@ fn highs_in_a_row() {
     assert!(board.break_change());
 }
 
-/// B22: the format is taken at p, not at p+8, and a false start takes it anew at the next p.
+/// The format is taken at p, not at p+8, and a false start takes it anew at the next p.
 #[test]
-fn b22_format_at_p() {
+fn format_at_p() {
     let mut board = Board::on_pins(PINS_16X, RECEIVING);
     board.receive(1, "1 0");
     board.mode(0x10, 0);
@@ -117,9 +117,9 @@ fn b22_format_at_p() {
     assert_eq!(board.sr(), 0, "8 bits again");
 }
 
-/// B23: one stop sample, whatever the stop code; the next low may come on the next pulse.
+/// One stop sample, whatever the stop code; the next low may come on the next pulse.
 #[test]
-fn b23_one_stop_sample() {
+fn one_stop_sample() {
     let mut board = Board::on_pins(PINS_16X, RECEIVING);
     board.mode(0x13, 15);
     board.receive(16, "1 0 10000000");
@@ -128,9 +128,9 @@ fn b23_one_stop_sample() {
     assert_eq!([board.read(3), board.read(3)], [1, 2]);
 }
 
-/// B24: a low stop at s, s+1 to s+8 low: p = s+8, checked at s+16. A high among them is a seen high.
+/// A low stop at s, s+1 to s+8 low: p = s+8, checked at s+16. A high among them is a seen high.
 #[test]
-fn b24_low_stop_at_16x() {
+fn low_stop_at_16x() {
     for (levels, arrives) in [
         ("00000000 00000000", true),
         ("00000000 00000001", false),
@@ -148,18 +148,18 @@ fn b24_low_stop_at_16x() {
     }
 }
 
-/// B25: after a false start the high at p+8 is a seen high.
+/// After a false start the high at p+8 is a seen high.
 #[test]
-fn b25_false_start() {
+fn false_start() {
     let mut board = Board::on_pins(PINS_16X, RECEIVING);
     board.receive(1, "1 00000000 1 000000000");
     board.receive(16, "111111111");
     assert_eq!(board.sr(), RXRDY);
 }
 
-/// B26: after a break's end the last high is a seen high.
+/// After a break's end the last high is a seen high.
 #[test]
-fn b26_low_after_a_break() {
+fn low_after_a_break() {
     let mut board = Board::on_pins(PINS_16X, RECEIVING);
     board.receive(16, "1 00000000000");
     board.read(3);
@@ -168,9 +168,9 @@ fn b26_low_after_a_break() {
     assert_eq!((board.sr(), board.read(3)), (RXRDY, 255));
 }
 
-/// B27: data, parity and stop low are a break, whatever parity is right. With a high parity bit it is none.
+/// Data, parity and stop low are a break, whatever parity is right. With a high parity bit it is none.
 #[test]
-fn b27_break_or_framing() {
+fn break_or_framing() {
     for (mr1, levels, marks) in [
         (0x03, "0 00000000 0 0", BREAK),
         (0x07, "0 00000000 0 0", BREAK),
@@ -191,9 +191,9 @@ fn b27_break_or_framing() {
     }
 }
 
-/// B33 and B48: a receiver just enabled must sample a high first, at 1X too.
+/// A receiver just enabled must sample a high first, at 1X too.
 #[test]
-fn b33_high_before_a_low() {
+fn high_before_a_low() {
     for csr in [PINS_16X, PINS_1X] {
         let mut board = Board::on_pins(csr, RECEIVING);
         board.receive_pulses(400, false);
@@ -207,9 +207,9 @@ fn b33_high_before_a_low() {
     assert_eq!(board.sr(), 0, "a high seen before the disable is forgotten");
 }
 
-/// B31, B48: disable drops the character and the wait for a break's end, without break change.
+/// Disable drops the character and the wait for a break's end, without break change.
 #[test]
-fn b31_disable() {
+fn disable() {
     let mut board = Board::on_pins(PINS_1X, RECEIVING);
     board.receive(1, "1 0 1010");
     board.command(DISABLE_RECEIVER);
@@ -225,9 +225,9 @@ fn b31_disable() {
     }
 }
 
-/// B32: enabling an enabled receiver is nothing, in a break wait too; 0x21 is reset, then just enabled.
+/// Enabling an enabled receiver is nothing, in a break wait too; 0x21 is reset, then just enabled.
 #[test]
-fn b32_enable_again() {
+fn enable_again() {
     let mut board = Board::on_pins(PINS_1X, RECEIVING);
     board.receive(1, "1 0 0000");
     board.command(ENABLE_RECEIVER);
@@ -240,9 +240,9 @@ fn b32_enable_again() {
     assert_eq!(board.sr(), 0, "a high is needed first");
 }
 
-/// B11: a 16X character goes on with 16 edges a bit though CSR is 1X now.
+/// A 16X character goes on with 16 edges a bit though CSR is 1X now.
 #[test]
-fn b11_csr_changed_in_a_character() {
+fn csr_changed_in_a_character() {
     let mut board = Board::on_pins(PINS_16X, RECEIVING);
     board.receive(16, "1 0 1000");
     board.write(1, PINS_1X);

@@ -1,5 +1,5 @@
-//! The model's tests, all through `Chip::step` and `frame`. A test named after A1 to A20 or B1 to B49
-//! shows one of the project's numbered readings of document 01's open points.
+//! The model's tests, all through `Chip::step` and `frame`: the eleven cases, the traps, and the open points of document 01 as
+//! docs/DECISIONS.md decides them.
 
 mod board;
 mod breaks;

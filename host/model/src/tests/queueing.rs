@@ -15,10 +15,10 @@ fn receive_with_low_stop(board: &mut Board) {
     board.receive(1, "1 0 10000000 0 1");
 }
 
-/// A12: the block sums grow in either mode; only command 4 and a chip reset clear them; they show with an
+/// The block sums grow in either mode; only command 4 and a chip reset clear them; they show with an
 /// empty queue.
 #[test]
-fn a12_block_sums() {
+fn block_sums() {
     let mut board = receiving();
     receive_with_low_stop(&mut board);
     board.read(3);
@@ -43,10 +43,10 @@ fn a12_block_sums() {
     assert_eq!(board.sr(), 0);
 }
 
-/// A13: command 4 clears the top character's own marks; the second keeps its marks and counts when it
+/// Command 4 clears the top character's own marks; the second keeps its marks and counts when it
 /// becomes oldest.
 #[test]
-fn a13_command_4() {
+fn command_4() {
     let mut board = receiving();
     board.mode(BLOCK, 0);
     receive_with_low_stop(&mut board);
@@ -73,9 +73,9 @@ fn block_sums_of_the_oldest_only() {
     assert_eq!(board.sr(), FRAMING | RXRDY);
 }
 
-/// B28: break change is set at the arrival even if the break goes to the waiting place and is lost.
+/// Break change is set at the arrival even if the break goes to the waiting place and is lost.
 #[test]
-fn b28_break_change_of_a_lost_break() {
+fn break_change_of_a_lost_break() {
     let mut board = receiving();
     board.receive_bytes(&[1, 2, 3]);
     board.receive(1, "1 0 00000000 0");
@@ -93,9 +93,9 @@ fn b28_break_change_of_a_lost_break() {
     assert!(!board.break_change());
 }
 
-/// B29: overrun at the confirmed start: at 16X p+8, not p, and not by a false start; at 1X p.
+/// Overrun at the confirmed start: at 16X p+8, not p, and not by a false start; at 1X p.
 #[test]
-fn b29_overrun_at_the_confirmed_start() {
+fn overrun_at_the_confirmed_start() {
     let mut board = receiving();
     board.receive_bytes(&[1, 2, 3, 4]);
     board.write(1, PINS_16X);
@@ -123,9 +123,9 @@ fn no_overrun_with_three_held() {
     assert_eq!([(); 4].map(|()| board.read(3)), [2, 3, 4, 5]);
 }
 
-/// B30: a read while one waits leaves three held; the new oldest enters the block sums.
+/// A read while one waits leaves three held; the new oldest enters the block sums.
 #[test]
-fn b30_read_while_one_waits() {
+fn read_while_one_waits() {
     let mut board = receiving();
     board.mode(BLOCK, 0);
     board.receive_bytes(&[1]);
@@ -137,9 +137,9 @@ fn b30_read_while_one_waits() {
     assert_eq!([(); 3].map(|()| board.read(3)), [1, 3, 4]);
 }
 
-/// B31 and B35: disable keeps queue, waiting place, overrun and break change, and they show.
+/// Disable keeps queue, waiting place, overrun and break change, and they show.
 #[test]
-fn b31_disable_keeps() {
+fn disable_keeps() {
     let mut board = receiving();
     board.receive(1, "1 0 00000000 0");
     board.receive_bytes(&[2, 3, 4, 5]);
@@ -149,9 +149,9 @@ fn b31_disable_keeps() {
     assert_eq!([(); 4].map(|()| board.read(3)), [0, 2, 3, 5]);
 }
 
-/// B34: a receiver reset keeps overrun and the last byte read.
+/// A receiver reset keeps overrun and the last byte read.
 #[test]
-fn b34_reset_keeps() {
+fn reset_keeps() {
     let mut board = receiving();
     board.receive_bytes(&[9, 2, 3, 4, 5]);
     board.read(3);
@@ -159,9 +159,9 @@ fn b34_reset_keeps() {
     assert_eq!((board.sr(), board.read(3)), (OVERRUN, 9));
 }
 
-/// B46: a stale read leaves the last byte read; a fresh one makes it, with the receiver disabled too.
+/// A stale read leaves the last byte read; a fresh one makes it, with the receiver disabled too.
 #[test]
-fn b46_last_byte_read() {
+fn last_byte_read() {
     let mut board = receiving();
     board.receive_bytes(&[7, 8]);
     board.command(DISABLE_RECEIVER);

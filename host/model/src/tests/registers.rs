@@ -38,9 +38,9 @@ fn numbers() {
     }
 }
 
-/// A19: IP3-IP0 whose level differs from that before this event; one event, one comparison.
+/// IP3-IP0 whose level differs from that before this event; one event, one comparison.
 #[test]
-fn a19_change_flags() {
+fn change_flags() {
     let mut board = Board::fresh();
     board.low(IP0 | IP4 | RXDA);
     board.high(IP0);
@@ -51,9 +51,9 @@ fn a19_change_flags() {
     assert_eq!(board.read(4), 0xF2);
 }
 
-/// A20: input port bits 7, 6 read 1.
+/// Input port bits 7, 6 read 1.
 #[test]
-fn a20_input_port() {
+fn input_port() {
     let mut board = Board::fresh();
     board.give(Event::Pins(0x15));
     assert_eq!(board.read(13), 0xD5);
@@ -61,9 +61,9 @@ fn a20_input_port() {
     assert_eq!(board.read(13), 0xC0);
 }
 
-/// B36: 5 depends on the pointer of that channel; a refused write leaves the pointer at MR1.
+/// 5 depends on the pointer of that channel; a refused write leaves the pointer at MR1.
 #[test]
-fn b36_pointer() {
+fn pointer() {
     let mut board = Board::fresh();
     board.write(0, 0x13);
     assert_eq!(board.give(Event::Write(0, 0x20)).number, 5, "MR2 bit 5");
@@ -75,9 +75,9 @@ fn b36_pointer() {
     assert_eq!(board.read(0), 0);
 }
 
-/// B37: 4 refuses the whole command; bit 7 is ignored.
+/// 4 refuses the whole command; bit 7 is ignored.
 #[test]
-fn b37_commands() {
+fn commands() {
     let mut board = Board::fresh();
     board.write(0, 0x13);
     assert_eq!(board.give(Event::Write(2, 0x1C)).number, 4);
@@ -86,9 +86,9 @@ fn b37_commands() {
     assert_eq!(board.read(0), 0x13);
 }
 
-/// B38: ISR bit 7 goes by flags and ACR as they stand; only the IPCR read clears flags.
+/// ISR bit 7 goes by flags and ACR as they stand; only the IPCR read clears flags.
 #[test]
-fn b38_input_change() {
+fn input_change() {
     let mut board = Board::fresh();
     board.write(5, 0x80);
     assert!(!board.low(IP2).irq);
@@ -103,9 +103,9 @@ fn b38_input_change() {
     assert!(!board.lines().irq);
 }
 
-/// B39, B47: an accepted acknowledge reads IVR and clears nothing.
+/// An accepted acknowledge reads IVR and clears nothing.
 #[test]
-fn b39_acknowledge() {
+fn acknowledge() {
     let mut board = Board::fresh();
     board.write(12, 0x42);
     board.write(5, 0x01);
@@ -118,9 +118,9 @@ fn b39_acknowledge() {
     assert_eq!(board.isr(), 0x01);
 }
 
-/// B40: a chip reset keeps levels and clears the flags; the next pin event compares with those levels.
+/// A chip reset keeps levels and clears the flags; the next pin event compares with those levels.
 #[test]
-fn b40_chip_reset() {
+fn chip_reset() {
     let mut board = Board::on_pins(PINS_1X, ENABLE_TRANSMITTER | ENABLE_RECEIVER);
     board.receive_bytes(&[7]);
     board.read(3);
@@ -181,9 +181,9 @@ fn isr_ffull_of_b() {
     assert_eq!((board.read(11), board.isr()), (255, 0));
 }
 
-/// B47: data is 0 for every event that reads nothing.
+/// Data is 0 for every event that reads nothing.
 #[test]
-fn b47_data_0() {
+fn data_0() {
     let mut board = Board::fresh();
     for event in [
         Event::Write(12, 9),
@@ -197,7 +197,7 @@ fn b47_data_0() {
 
 /// "Refused: data 0, the state as given, lines as that state drives them"
 #[test]
-fn b49_lines_of_a_refusal() {
+fn lines_of_a_refusal() {
     let mut board = Board::on_pins(PINS_1X, ENABLE_TRANSMITTER);
     board.write(3, 0);
     board.write(5, 0x01);

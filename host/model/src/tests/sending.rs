@@ -3,9 +3,9 @@
 use super::board::*;
 use crate::frame;
 
-/// A1: the shifter is empty on the pulse after the frame's last.
+/// The shifter is empty on the pulse after the frame's last.
 #[test]
-fn a1_shifter_empty() {
+fn shifter_empty() {
     for (csr, pulses) in [(PINS_16X, 160), (PINS_1X, 10)] {
         let mut board = Board::on_pins(csr, ENABLE_TRANSMITTER);
         board.write(3, 85);
@@ -15,7 +15,7 @@ fn a1_shifter_empty() {
 
 /// "at the earliest on the pulse after a frame's last"
 #[test]
-fn a1_next_character_starts_on_the_pulse_after() {
+fn next_character_starts_on_the_pulse_after() {
     let mut board = Board::on_pins(PINS_1X, ENABLE_TRANSMITTER);
     board.write(3, 85);
     board.send_pulse();
@@ -24,9 +24,9 @@ fn a1_next_character_starts_on_the_pulse_after() {
     assert_eq!(board.sr() & 12, 4, "ready, not yet empty");
 }
 
-/// B11: the source is CSR as it stands, the meaning of a pulse is taken at the start.
+/// The source is CSR as it stands, the meaning of a pulse is taken at the start.
 #[test]
-fn b11_csr_changed_in_a_character() {
+fn csr_changed_in_a_character() {
     let mut board = Board::on_pins(PINS_16X, ENABLE_TRANSMITTER);
     board.write(3, 85);
     board.sends(20);
@@ -34,9 +34,9 @@ fn b11_csr_changed_in_a_character() {
     assert_eq!(board.send_pulses_until_empty(), Some(141));
 }
 
-/// B12: the format is taken when the character starts, not when it is written; CTS goes as it stands.
+/// The format is taken when the character starts, not when it is written; CTS goes as it stands.
 #[test]
-fn b12_format_at_the_start() {
+fn format_at_the_start() {
     let mut board = Board::on_pins(PINS_1X, ENABLE_TRANSMITTER);
     board.write(3, 255);
     board.mode(0x10, 0);
@@ -51,9 +51,9 @@ fn b12_format_at_the_start() {
     assert_eq!(board.send_pulses_until_low(), Some(1));
 }
 
-/// B13: a write while disabled is ignored with a full holding place too; a second write replaces the first.
+/// A write while disabled is ignored with a full holding place too; a second write replaces the first.
 #[test]
-fn b13_writes() {
+fn writes() {
     let mut board = Board::on_pins(PINS_1X, ENABLE_TRANSMITTER);
     board.write(3, 1);
     board.write(3, 85);
@@ -82,9 +82,9 @@ fn disable_in_a_frame() {
     assert_eq!(board.send_pulses_until_low(), Some(1));
 }
 
-/// B14: CTS is looked at only on a pulse that could start a character; A has IP0, B has IP1.
+/// CTS is looked at only on a pulse that could start a character; A has IP0, B has IP1.
 #[test]
-fn b14_cts() {
+fn cts() {
     let mut board = Board::on_pins(PINS_1X, ENABLE_TRANSMITTER);
     board.mode(0x13, 0x17);
     board.write(3, 85);
@@ -107,9 +107,9 @@ fn b14_cts() {
     assert!(!board.low(IP1 | IP5).txdb, "CTS and the clock in one event");
 }
 
-/// B19: a reset in a frame: TxD is high at once, and the next start may come on the very next pulse.
+/// A reset in a frame: TxD is high at once, and the next start may come on the very next pulse.
 #[test]
-fn b19_reset_in_a_frame() {
+fn reset_in_a_frame() {
     let mut board = Board::on_pins(PINS_16X, ENABLE_TRANSMITTER);
     board.write(3, 0);
     board.sends(5);
@@ -122,9 +122,9 @@ fn b19_reset_in_a_frame() {
     assert_eq!(board.send_pulses_until_low(), Some(1));
 }
 
-/// B20: at 1X the stop length goes by MR2 bit 3 alone, for 5 data bits too.
+/// At 1X the stop length goes by MR2 bit 3 alone, for 5 data bits too.
 #[test]
-fn b20_stop_at_1x() {
+fn stop_at_1x() {
     for (mr1, mr2, pulses) in [(0x10, 7, 7), (0x10, 8, 8), (0x13, 7, 10), (0x13, 15, 11)] {
         let mut board = Board::on_pins(PINS_1X, ENABLE_TRANSMITTER);
         board.mode(mr1, mr2);
@@ -133,9 +133,9 @@ fn b20_stop_at_1x() {
     }
 }
 
-/// B21: parity is over the data bits in use only.
+/// Parity is over the data bits in use only.
 #[test]
-fn b21_parity_over_the_bits_in_use() {
+fn parity_over_the_bits_in_use() {
     let levels = |byte| {
         let mut space = [7; 192];
         frame(0x02, 7, byte, &mut space);
