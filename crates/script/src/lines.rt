@@ -1,4 +1,5 @@
 // What a line of a script says.
+use crate::reading::MOST;
 use crate::reading::Reading;
 use events::Event;
 use format::Ticks;
@@ -25,8 +26,6 @@ const ACK: u64 = 0x1_61_63_6b;
 const PINS: u64 = 0x1_70_69_6e_73;
 
 const TICK: u64 = 0x1_74_69_63_6b;
-
-const MOST: u64 = 4000000000;
 
 // `reset`, `ack` or `tick`
 fn tell_alone(name: u64) -> Line

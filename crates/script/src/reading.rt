@@ -25,7 +25,7 @@ const FIVE_BYTES: u64 = 0x100_0000_0000;
 const LONG: u64 = 0x1_0000_0000_0000;
 
 // The most ticks that a line may ask for, and the most of any number.
-const MOST: u64 = 4000000000;
+pub const MOST: u64 = 4000000000;
 
 const MUCH: u64 = 4000000001;
 

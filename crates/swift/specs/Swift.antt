@@ -9,11 +9,10 @@ use Rattle.timer.specs.Timer.{tickedBy}
 use Rattle.events.specs.declared.events.Event.{Event}
 use Rattle.events.specs.declared.events.Event.the-variants.{ChipReset, Read, Write, Acknowledge, Pins, Tick}
 use Rattle.front.specs.declared.front.Front.{Front}
-use Rattle.front_clocks.specs.Clocking.{tickedOf}
-use Rattle.receiver.specs.Receiver.{fedOf}
 use Rattle.device.specs.declared.device.Device.{Device}
 use Rattle.device.specs.Device.{deviceLines}
 use Rattle.duart.specs.declared.duart.Answer.{Answer}
+use Rattle.duart.specs.Duart.{takenOf}
 use Rattle.swift.specs.Quiet.{areStill, quietOf}
 
 unfoldable pub isTick : Event → Bool
@@ -28,14 +27,9 @@ isTick Tick = true
 unfoldable pub atRest : Device → Answer
 atRest d = record { number = 0; byte = 0; lines = deviceLines d; state = d }
 
--- the state after any tick
-unfoldable pub fullOf : Device → Device
-fullOf d =
-    record {
-      front = tickedOf (d .front) .front;
-      a = fedOf (d .a) (tickedOf (d .front) .a) .receiver;
-      b = fedOf (d .b) (tickedOf (d .front) .b) .receiver;
-    }
+-- the state after any tick, by the chip's own rule
+abbrev pub fullOf : Device → Device
+fullOf d = takenOf d Tick .state
 
 -- the counter/timer in a tick
 abbrev pub countedIn : Front → Counted

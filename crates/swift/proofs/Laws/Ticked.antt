@@ -93,7 +93,7 @@ front-quiet f h =
     )
 
 device-quiet : (d : Device) → isQuiet (d .front) ≡ true → fullOf d ≡ quietOf d (countedIn (d .front) .timer)
-unfolding fullOf quietOf fedOf
+unfolding takenOf frontStepped quietOf fedOf
 device-quiet d h = rw (front-quiet (d .front) h)
 
 -- ---- the answer ----
@@ -104,7 +104,7 @@ unfolding firstOf registerAbove15 forbiddenRead forbiddenCommand settingNotModel
 tick-free d s = rw s
 
 taken-full : (d : Device) → acceptedOf (takenOf d Tick) ≡ atRest (fullOf d)
-unfolding takenOf frontStepped eventData atRest fullOf
+unfolding takenOf eventData atRest
 taken-full d = refl
 
 tick-step : (d : Device) → isSoundOf d ≡ true → stepOf d Tick ≡ atRest (fullOf d)

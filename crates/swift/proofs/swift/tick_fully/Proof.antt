@@ -2,7 +2,8 @@
 use Prim.{tt}
 use Rattle.swift.proofs.swift.tick_fully.Statement.{statement}
 use Rattle.swift.proofs.swift.tick_fully.Tie as tie
-use Rattle.swift.specs.Swift.{fullOf}
+use Rattle.front_events.specs.FrontEvents.{frontStepped}
+use Rattle.duart.specs.Duart.{takenOf}
 
 tick-front-requires : tie.Need-tick-front-requires
 tick-front-requires c κs = tt
@@ -14,7 +15,7 @@ feed-receiver-requires-2 : tie.Need-feed-receiver-requires-2
 feed-receiver-requires-2 c κs = tt
 
 returns : tie.Need-returns
-unfolding fullOf
+unfolding takenOf frontStepped
 returns c = simp (c .before .before .feed-receiver2 .ensures, c .before .before .before .feed-receiver .ensures, c .before .before .before .before .before .tick-front .ensures)
 
 pub tick-fully-spec : {M : Type 1} → statement M
