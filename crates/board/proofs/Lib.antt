@@ -1,2 +1,3 @@
--- The proofs of the board: the machine values that the thin step moves, and a file a function.
+-- The proofs of the board: the machine values that the thin step moves, the wrong answers that are shut out, and a file a function.
 pub mod Machine
+mod ShutOut

@@ -1,2 +1,3 @@
--- The proofs of one byte's line: the laws, and a file a function.
+-- The proofs of one byte's line: the laws, the wrong answers that are shut out, and a file a function.
 pub mod Laws
+mod ShutOut

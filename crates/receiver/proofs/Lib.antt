@@ -4,3 +4,4 @@ pub mod Delivery
 pub mod Examples
 pub mod ReadBack
 pub mod Wrong
+mod ShutOut

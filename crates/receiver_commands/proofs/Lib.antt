@@ -1,1 +1,2 @@
 -- No laws stand here: those of a receiver stand in the crate above.
+mod ShutOut

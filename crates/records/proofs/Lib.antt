@@ -1,1 +1,2 @@
--- The proofs of the records: each function has a file of its own.
+-- The proofs of the records: the wrong answers that are shut out, and a file a function.
+mod ShutOut

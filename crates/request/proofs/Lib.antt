@@ -1,2 +1,3 @@
 -- The laws of the frame request.
 pub mod Laws
+mod ShutOut

@@ -1,1 +1,2 @@
--- The proofs of a script's reading: each function has a file of its own.
+-- The proofs of a script's reading: the wrong answers that are shut out, and a file a function.
+mod ShutOut

@@ -4,3 +4,4 @@ pub mod Counts
 pub mod Sources
 pub mod Wrong
 pub mod Examples
+mod ShutOut

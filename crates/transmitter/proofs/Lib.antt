@@ -6,3 +6,4 @@ pub mod Obeys
 pub mod Wrong
 pub mod WrongBreaks
 pub mod Examples
+mod ShutOut

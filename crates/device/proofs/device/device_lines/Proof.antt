@@ -2,7 +2,6 @@
 use Prim.{tt}
 use Rattle.device.proofs.device.device_lines.Statement.{statement}
 use Rattle.device.proofs.device.device_lines.Tie as tie
-use Rattle.device.specs.Device.{deviceLines}
 
 show-channel-requires : tie.Need-show-channel-requires
 show-channel-requires c κs = tt
@@ -14,7 +13,6 @@ lines-of-requires : tie.Need-lines-of-requires
 lines-of-requires c κs = tt
 
 returns : tie.Need-returns
-unfolding deviceLines
 returns c = simp (c .lines-of .ensures, c .before .show-channel2 .ensures, c .before .before .show-channel .ensures)
 
 pub device-lines-spec : {M : Type 1} → statement M

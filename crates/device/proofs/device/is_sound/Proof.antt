@@ -2,7 +2,6 @@
 use Prim.{tt}
 use Rattle.device.proofs.device.is_sound.Statement.{statement}
 use Rattle.device.proofs.device.is_sound.Tie as tie
-use Rattle.device.specs.Device.{isSoundOf}
 
 front-in-range-requires : tie.Need-front-in-range-requires
 front-in-range-requires c κs = tt
@@ -14,7 +13,6 @@ receiver-is-sound-requires-2 : tie.Need-receiver-is-sound-requires-2
 receiver-is-sound-requires-2 c κs = tt
 
 returns : tie.Need-returns
-unfolding isSoundOf
 returns c = simp (c .receiver-is-sound2 .ensures, c .before .receiver-is-sound .ensures, c .before .before .front-in-range .ensures)
 
 pub is-sound-spec : {M : Type 1} → statement M

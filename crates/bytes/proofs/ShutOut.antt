@@ -1,0 +1,18 @@
+-- Wrong answers, each shut out by a definition: a routine that gave it would not meet its contract. Assumes nothing.
+use Prim.Native.Nat.{ℕ, _/_, _%_, _^_, _<_}
+use mathlib.Core.Path.{_≡_}
+use mathlib.Core.Bool.{Bool, true, false, false≢true}
+use native.Mathlib.Omega.{arith}
+use lib.Dec.{eqb}
+use Rattle.format.specs.Pick.{pick}
+use Rattle.bytes.specs.Bytes.{hasBit, weightOf, byteOf}
+
+no-bitAbove : ((byte number : ℕ) → number < 8 → eqb (byte / 2 ^ number / 2 % 2) 1 ≡ hasBit byte number) → ⊥
+unfolding hasBit pick
+no-bitAbove h = false≢true (h 1 0 (omega arith))
+
+no-bit0Lost :
+    ((b7 b6 b5 b4 b3 b2 b1 b0 : Bool) → byteOf b7 b6 b5 b4 b3 b2 b1 false ≡ byteOf b7 b6 b5 b4 b3 b2 b1 b0)
+    → ⊥
+unfolding byteOf weightOf pick
+no-bit0Lost h = omega (arith, h false false false false false false false true)

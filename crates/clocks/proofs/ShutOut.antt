@@ -1,0 +1,36 @@
+-- Wrong answers, each shut out by a definition: a routine that gave it would not meet its contract. Assumes nothing.
+use Prim.Native.Nat.{ℕ, _%_}
+use mathlib.Core.Path.{_≡_}
+use mathlib.Core.Bool.{Bool, true, false, false≢true}
+use native.Mathlib.Omega.{arith}
+use lib.Dec.{ltb}
+use Rattle.format.specs.Pick.{pick}
+use Rattle.clocks.specs.declared.channel.ClockEvent.{ClockEvent}
+use Rattle.clocks.specs.declared.channel.Phases.{Phases}
+use Rattle.clocks.specs.Channel.{restarted, restartedOnChange, isSixteen, sideOf, clockedOf}
+
+-- under way
+abbrev some : Phases
+some = record { receiver = record { 0 = 5 }; transmitter = record { 0 = 6 }; sixteenths = record { 0 = 7 } }
+
+-- "A CSR write restarts that channel's phases": the 1X clock's too
+no-restartOnePulseOn : 1 ≡ restarted .sixteenths .0 → ⊥
+no-restartOnePulseOn = omega arith
+
+-- "a change of ACR bit 7 restarts all four": here any write does
+no-anyWriteRestarts : ((p : Phases) (before after : ℕ) → 0 ≡ restartedOnChange p before after .receiver .0) → ⊥
+unfolding restartedOnChange pick
+no-anyWriteRestarts h = omega (arith, h some 0 0)
+
+-- "14 (16X), 15 (1X)"
+no-code14Is1x : ((code : ℕ) → ltb code 14 ≡ isSixteen code) → ⊥
+no-code14Is1x h = false≢true (h 14)
+
+-- "CSR bits 7-4 receiver": they say 14, the low ones 13, and its pin rises
+no-receiverByLowBits :
+    ((p : Phases) (second : Bool) (csr : ℕ) (b : ClockEvent)
+    → sideOf (p .receiver) second (csr % 16) b (b .rising) .pulse ≡ clockedOf p second csr b .receiver)
+    → ⊥
+unfolding clockedOf sideOf pick
+no-receiverByLowBits h =
+    false≢true (h some false 237 (record { tick = false; toggled = false; rising = true; falling = false }))

@@ -1,1 +1,0 @@
--- No laws stand here: the programs above only run.
