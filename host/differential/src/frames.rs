@@ -1,4 +1,4 @@
-//! Frame requests: all MR1 and MR2, some bytes, and spaces about as long as the frame. The number, the length
+//! Frame requests: all MR1 and MR2, every byte, and some bytes in spaces about as long as the frame. The number, the length
 //! and the whole space are those of the model's.
 
 use crate::generator::Generator;
@@ -49,19 +49,33 @@ pub fn run(seed: u64) -> Result<u64, Failure> {
 fn try_setting(draws: &mut Generator, mr1: u8, mr2: u8) -> Result<u64, Failure> {
     let longest = model::frame(mr1, mr2, 0, &mut [0; 192]);
     let length = usize::from(longest.length);
-    let bytes = [draws.byte(), 0, 255, 85, draws.byte()];
     // A refused setting is refused for all bytes alike, so there one will do.
-    let tried = if longest.number == 0 { 5 } else { 1 };
-    let mut requests = 0;
-    for byte in bytes.into_iter().take(tried) {
-        let any = draws.below(SPACE as u64) as usize;
-        let about = length.saturating_sub(1);
-        for space in [0, about, length, length + 7, 192, any] {
-            compare(mr1, mr2, byte, space)?;
-            requests += 1;
-        }
+    if longest.number != 0 {
+        return try_spaces(draws, mr1, mr2, 0, length);
+    }
+    let mut requests = try_bytes(mr1, mr2)?;
+    for byte in [draws.byte(), 0, 255, 85, draws.byte()] {
+        requests += try_spaces(draws, mr1, mr2, byte, length)?;
     }
     Ok(requests)
+}
+
+/// Every byte, in a space that holds any frame.
+fn try_bytes(mr1: u8, mr2: u8) -> Result<u64, Failure> {
+    for byte in 0..=255 {
+        compare(mr1, mr2, byte, 192)?;
+    }
+    Ok(256)
+}
+
+/// One byte, in spaces about as long as the frame.
+fn try_spaces(draws: &mut Generator, mr1: u8, mr2: u8, byte: u8, length: usize) -> Result<u64, Failure> {
+    let any = draws.below(SPACE as u64) as usize;
+    let spaces = [0, length.saturating_sub(1), length, length + 7, 192, any];
+    for space in spaces {
+        compare(mr1, mr2, byte, space)?;
+    }
+    Ok(spaces.len() as u64)
 }
 
 fn compare(mr1: u8, mr2: u8, byte: u8, space: usize) -> Result<(), Failure> {
@@ -94,9 +108,9 @@ mod tests {
     }
 
     #[test]
-    fn each_setting_is_tried_in_all_spaces() {
+    fn each_setting_is_tried_with_all_bytes_and_in_all_spaces() {
         let mut draws = Generator::with_seed(1);
-        assert!(matches!(try_setting(&mut draws, 19, 7), Ok(30)));
+        assert!(matches!(try_setting(&mut draws, 19, 7), Ok(286)));
         assert!(matches!(try_setting(&mut draws, 31, 7), Ok(6)));
     }
 }

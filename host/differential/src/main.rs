@@ -1,7 +1,7 @@
 //! The differential test: the proved chip, through the archive's C interface, beside the independent model
 //! of document 01. `differential [EVENTS [SEED]]` runs so many events of random scripts, then random devices
 //! and all frame requests, and exits with 1 at the first difference, which it prints so that the replay
-//! program can show it.
+//! program can show it. From the fixed seed it also asks that the scripts reach all that coverage.rs counts.
 
 mod counting;
 mod coverage;
@@ -38,7 +38,7 @@ fn arguments() -> Option<(u64, u64)> {
     (arguments.len() <= 2).then_some(numbers)
 }
 
-/// The scripts, with what they reached; a run as long as the default one must reach everything.
+/// The scripts, with what they reached; from the fixed seed a run as long as the default one must reach everything.
 fn run_scripts(events: u64, seed: u64) -> Result<String, ()> {
     let mut coverage = Coverage::default();
     let scripts = scripts::run(events, seed, &mut coverage).map_err(|failure| {
@@ -46,11 +46,11 @@ fn run_scripts(events: u64, seed: u64) -> Result<String, ()> {
     })?;
     coverage.print();
     let missing = coverage.missing();
-    if events >= EVENTS && !missing.is_empty() {
+    if seed == SEED && events >= EVENTS && !missing.is_empty() {
         println!("the scripts never reached: {}", missing.join(", "));
         return Err(());
     }
-    Ok(format!("{} events in {scripts} scripts", coverage.events()))
+    Ok(format!("seed {seed}: {} events in {scripts} scripts", coverage.events()))
 }
 
 fn run_devices(seed: u64) -> Result<String, ()> {
@@ -76,12 +76,12 @@ fn run_all(events: u64, seed: u64) -> Result<(), ()> {
 }
 
 fn main() -> ExitCode {
-    let Some((events, seed)) = arguments() else {
-        eprintln!("usage: differential [EVENTS [SEED]]");
-        return ExitCode::from(2);
-    };
-    match run_all(events, seed) {
-        Ok(()) => ExitCode::SUCCESS,
-        Err(()) => ExitCode::FAILURE,
+    match arguments().map(|(events, seed)| run_all(events, seed)) {
+        None => {
+            eprintln!("usage: differential [EVENTS [SEED]]");
+            ExitCode::from(2)
+        }
+        Some(Ok(())) => ExitCode::SUCCESS,
+        Some(Err(())) => ExitCode::FAILURE,
     }
 }

@@ -71,7 +71,7 @@ fn lines(events: &[EventRecord]) -> Vec<String> {
     for (place, event) in events.iter().enumerate() {
         if event.kind == TICK {
             ticks += 1;
-            if events.get(place + 1).is_none_or(|next| next.kind != TICK) {
+            if events.get(place + 1).map_or(true, |next| next.kind != TICK) {
                 lines.push(format!("tick {ticks}"));
                 ticks = 0;
             }

@@ -182,11 +182,6 @@ impl CounterTimer {
         self.isr_bit_3
     }
 
-    /// Whether a timer mode is chosen and its output is high.
-    pub fn timer_output_is_high(&self) -> bool {
-        self.mode.kind == Kind::Timer && self.output == Level::High
-    }
-
     /// "OPCR 3-2 = 01 puts the timer output on OP3, or in counter mode the complement of ISR bit 3."
     pub fn op3(&self) -> Level {
         match self.mode.kind {

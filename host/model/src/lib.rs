@@ -9,7 +9,6 @@ pub mod character;
 pub mod chip;
 pub mod clock;
 pub mod counter_timer;
-pub mod draws;
 pub mod format;
 pub mod frame;
 pub mod level;
