@@ -15,10 +15,6 @@ use Rattle.transmitter.specs.Transmitter.{afterInput}
 use Rattle.side.specs.declared.side.Side.{Side}
 use Rattle.side.specs.Side.{withEnabled, withTransmitter, pointedAt}
 
--- "command whose bits 3-2 or 1-0 are 11"
-abbrev pub commandForbidden : ℕ → Bool
-commandForbidden byte = eqb (byte / 4 % 4) 3 || eqb (byte % 4) 3
-
 -- ---- bits 6-4 ----
 
 abbrev pub effectBits : ℕ → ℕ

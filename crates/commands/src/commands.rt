@@ -7,14 +7,7 @@ use side::Side;
 use transmitter::Input;
 use transmitter::step_transmitter;
 ghost use mathlib.Core.Path.{_≡_};
-ghost use Rattle.commands.specs.Commands.{commandForbidden, effectBits, transmitterEffect, transmitterEnabling, receiverEffect, receiverEnabling, enabledThen, enabledAfter, sideCommanded, commandFeed};
-
-// "command whose bits 3-2 or 1-0 are 11"
-pub fn command_forbidden(byte: u8) -> bool
-    ensures { λ r. ⌜ r ≡ commandForbidden byte ⌝ }
-{
-    (byte / 4 % 4 == 3) | (byte % 4 == 3)
-}
+ghost use Rattle.commands.specs.Commands.{effectBits, transmitterEffect, transmitterEnabling, receiverEffect, receiverEnabling, enabledThen, enabledAfter, sideCommanded, commandFeed};
 
 // Bits 6-4.
 fn effect_bits(byte: u8) -> u8

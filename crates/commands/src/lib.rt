@@ -2,5 +2,4 @@
 mod commands;
 
 pub use commands::command_feed;
-pub use commands::command_forbidden;
 pub use commands::command_side;

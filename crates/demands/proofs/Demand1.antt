@@ -17,10 +17,9 @@ use Rattle.frame.proofs.Laws.Levels.{length-most}
 use Rattle.request.specs.Request.{lengthAsked, levelsAsked, notModelled, spaceShort, firstRefusal, answerOf, requestOf, spaceAfter}
 use Rattle.outputs.specs.Outputs.{opcrNotModelled}
 use Rattle.side.specs.Side.{modeNotModelled}
-use Rattle.commands.specs.Commands.{commandForbidden}
+use Rattle.events.specs.Refusals.{commandForbidden, registerAbove15, forbiddenRead, forbiddenCommand}
 use Rattle.events.specs.declared.events.Event.{Event}
 use Rattle.events.specs.declared.events.Event.the-variants.{Read, Write}
-use Rattle.events.specs.Refusals.{registerAbove15, forbiddenRead, forbiddenCommand}
 use Rattle.front_events.specs.NotModelled.{writeNotModelled, settingNotModelled}
 use Rattle.device.specs.declared.device.Device.{Device}
 use Rattle.device.specs.Device.{isSoundOf}

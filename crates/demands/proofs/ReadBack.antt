@@ -26,7 +26,7 @@ use Rattle.receiver.specs.Delivery as Receivers
 use Rattle.receiver.specs.Delivery.{linesOver}
 use Rattle.receiver.specs.ReadBack.{pulses, sent}
 use Rattle.receiver.proofs.ReadBack.{sent-frame, read-back-frame}
-use Rattle.commands.specs.Commands.{commandForbidden}
+use Rattle.events.specs.Refusals.{commandForbidden}
 use Rattle.front.specs.declared.front.Front.{Front}
 use Rattle.events.specs.declared.events.Event.{Event}
 use Rattle.events.specs.declared.events.Event.the-variants.{ChipReset, Read, Write, Acknowledge, Pins, Tick}

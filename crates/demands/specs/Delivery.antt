@@ -21,7 +21,7 @@ use Rattle.receiver.specs.Delivery.Fate.{WasRead, Held}
 use Rattle.clocks.specs.Channel.{isSixteen}
 use Rattle.clocks.specs.Pulses.Side.{receives}
 use Rattle.bytes.specs.Bytes.{hasBit}
-use Rattle.commands.specs.Commands.{commandForbidden}
+use Rattle.events.specs.Refusals.{commandForbidden}
 use Rattle.events.specs.declared.events.Event.{Event}
 use Rattle.events.specs.declared.events.Event.the-variants.{ChipReset, Read, Write, Acknowledge, Pins, Tick}
 use Rattle.demands.specs.Chip.{Chip, Channel, ofChannel, registerOf, andThen, shows, statusBit}

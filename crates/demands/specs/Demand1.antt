@@ -11,7 +11,7 @@ use Rattle.format.specs.Pick.{pick}
 use Rattle.request.specs.declared.request.FrameAnswer.{FrameAnswer}
 use Rattle.request.specs.Request.{lengthAsked, levelsAsked, requestOf, spaceAfter}
 use Rattle.outputs.specs.Outputs.{opcrNotModelled}
-use Rattle.commands.specs.Commands.{commandForbidden}
+use Rattle.events.specs.Refusals.{commandForbidden}
 use Rattle.events.specs.declared.events.Event.{Event}
 use Rattle.events.specs.declared.events.Event.the-variants.{Read, Write}
 use Rattle.device.specs.declared.device.Device.{Device}

@@ -5,7 +5,7 @@ use mathlib.Core.List.{List}
 use lib.Dec.{eqb}
 use Rattle.format.specs.Pick.{pick}
 use Rattle.format.specs.Format.{mr1NotModelled, mr2NotModelled}
-use Rattle.commands.specs.Commands.{commandForbidden}
+use Rattle.events.specs.Refusals.{commandForbidden}
 use Rattle.events.specs.declared.events.Event.{Event}
 use Rattle.events.specs.declared.events.Event.the-variants.{ChipReset, Read, Write, Acknowledge, Pins, Tick}
 use Rattle.demands.specs.Chip.{Channel, registerOf, over}

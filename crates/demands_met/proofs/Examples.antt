@@ -18,7 +18,8 @@ use Rattle.events.specs.declared.events.Event.{Event}
 use Rattle.events.specs.declared.events.Event.the-variants.{Read, Write, Acknowledge, Pins, Tick}
 use Rattle.format.specs.Format.{mr1NotModelled, mr2NotModelled, formatOf}
 use Rattle.outputs.specs.Outputs.{opcrNotModelled, drivenBy, drivenOp3, opLevels}
-use Rattle.commands.specs.Commands.{commandForbidden, transmitterEffect, receiverEffect, transmitterEnabling, receiverEnabling, sideCommanded, commandFeed}
+use Rattle.commands.specs.Commands.{transmitterEffect, receiverEffect, transmitterEnabling, receiverEnabling, sideCommanded, commandFeed}
+use Rattle.events.specs.Refusals.{commandForbidden, registerAbove15, forbiddenRead, forbiddenCommand}
 use Rattle.request.specs.Request.{lengthAsked, firstRefusal, answerOf, requestOf, spaceAfter}
 use Rattle.clocks.specs.Pulses.Side.{receives, transmits}
 use Rattle.counting.specs.Counting.{modeOf, isTimer, counterPulsed, timerPulsed, pulsedBy}
@@ -52,7 +53,6 @@ use Rattle.front.specs.Front.{frontAt}
 use Rattle.front_clocks.specs.Clocking.{countedOf, clockedWith, levelsMoved}
 use Rattle.writes.specs.Writes.{sideWritten, acrWritten, sharedWritten, registerWritten}
 use Rattle.reads.specs.Reads.{sideRead, sharedRead, registerRead, frontData}
-use Rattle.events.specs.Refusals.{registerAbove15, forbiddenRead, forbiddenCommand}
 use Rattle.front_events.specs.FrontEvents.{frontStepped}
 use Rattle.front_events.specs.NotModelled.{writeNotModelled, settingNotModelled}
 use Rattle.answers.specs.Answers.{assertedOf, timerLevel, linesOf, registerData, eventData}

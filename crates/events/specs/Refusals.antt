@@ -1,7 +1,7 @@
 -- The rows of the table of answers that hang on the event alone, each by itself. Assumes nothing.
+use Prim.Native.Nat.{ℕ, _/_, _%_}
 use mathlib.Core.Bool.{Bool, false, _&&_, _||_}
 use lib.Dec.{eqb, ltb}
-use Rattle.commands.specs.Commands.{commandForbidden}
 use Rattle.events.specs.declared.events.Event.{Event}
 use Rattle.events.specs.declared.events.Event.the-variants.{ChipReset, Read, Write, Acknowledge, Pins, Tick}
 
@@ -22,6 +22,10 @@ forbiddenRead (Write n byte) = false
 forbiddenRead Acknowledge = false
 forbiddenRead (Pins levels) = false
 forbiddenRead Tick = false
+
+-- "command whose bits 3-2 or 1-0 are 11"
+abbrev pub commandForbidden : ℕ → Bool
+commandForbidden byte = eqb (byte / 4 % 4) 3 || eqb (byte % 4) 3
 
 -- 4: "command whose bits 3-2 or 1-0 are 11"; a command is a write of register 2 or 10
 unfoldable pub forbiddenCommand : Event → Bool

@@ -1,8 +1,7 @@
 // The rows of the table of answers that hang on the event alone, each by itself.
 use crate::events::Event;
-use commands::command_forbidden;
 ghost use mathlib.Core.Path.{_≡_};
-ghost use Rattle.events.specs.Refusals.{registerAbove15, forbiddenRead, forbiddenCommand};
+ghost use Rattle.events.specs.Refusals.{registerAbove15, forbiddenRead, commandForbidden, forbiddenCommand};
 
 // 2: "register above 15"
 pub fn is_register_above_15(event: Event) -> bool
@@ -30,6 +29,13 @@ pub fn is_forbidden_read(event: Event) -> bool
         Event::Pins(levels) => false,
         Event::Tick => false,
     }
+}
+
+// "command whose bits 3-2 or 1-0 are 11"
+fn command_forbidden(byte: u8) -> bool
+    ensures { λ r. ⌜ r ≡ commandForbidden byte ⌝ }
+{
+    (byte / 4 % 4 == 3) | (byte % 4 == 3)
 }
 
 // 4: "command whose bits 3-2 or 1-0 are 11": a write of register 2 or 10 is a command.

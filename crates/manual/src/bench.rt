@@ -1,4 +1,5 @@
 // The bench: the chip, the levels on its pins, and whether a wire joins each TxD to the RxD beside it.
+use bytes::has_bit;
 use device::fresh;
 use duart::Answer;
 use duart::step;
@@ -19,21 +20,23 @@ pub fn start() -> Bench {
     }
 }
 
-pub fn act(bench: Bench, event: Event) -> Bench {
+fn pins_after(pins: u8, event: Event) -> u8 {
+    match event {
+        Event::Pins(levels) => levels,
+        _ => pins,
+    }
+}
+
+fn take(bench: Bench, event: Event) -> Bench {
     let state = bench.answer.state;
-    let answer = step(state, event);
-    let mut next = bench;
-    next.answer = answer;
-    next
+    Bench {
+        answer: step(state, event),
+        pins: pins_after(bench.pins, event),
+        wired: bench.wired,
+    }
 }
 
-pub fn set_pins(bench: Bench, levels: u8) -> Bench {
-    let mut next = act(bench, Event::Pins(levels));
-    next.pins = levels;
-    next
-}
-
-pub fn weight(level: bool, weight: u8) -> u8 {
+fn weight(level: bool, weight: u8) -> u8 {
     if level { weight } else { 0 }
 }
 
@@ -42,82 +45,111 @@ fn wired_levels(pins: u8, txda: bool, txdb: bool) -> u8 {
     pins % 64 | weight(txda, 64) | weight(txdb, 128)
 }
 
-pub fn tick(bench: Bench) -> Bench {
-    let next = act(bench, Event::Tick);
+// A wire passes a level on with the tick.
+fn passes_on(wired: bool, event: Event) -> bool {
+    match event {
+        Event::Tick => wired,
+        _ => false,
+    }
+}
+
+pub fn act(bench: Bench, event: Event) -> Bench {
+    let next = take(bench, event);
     let levels = wired_levels(next.pins, next.answer.lines.txda, next.answer.lines.txdb);
-    if next.wired & (levels != next.pins) {
-        return set_pins(next, levels);
+    if passes_on(next.wired, event) & (levels != next.pins) {
+        return take(next, Event::Pins(levels));
     }
     next
 }
 
-pub fn ticks(bench: Bench, times: u64) -> Bench {
+// What each turn does, and when no more is wanted.
+pub enum Wish {
+    // a tick
+    Ticks,
+    // a falling edge on IP3, channel A's external transmitter clock
+    Edges,
+    // a tick, while a byte comes in on RxDA (mask 64) or RxDB (mask 128), one bit in 384: 9600 bits a second
+    Character(u8, u8),
+    // a read of a register, and a tick before each other one, until one of the masked bits is set
+    Set(u8, u8),
+    // a tick, until TxDA leaves the level
+    Leaves(bool),
+}
+
+// Bit n of the frame of a byte: start bit, eight data bits, the lowest first, and a high bit.
+fn frame_level(byte: u8, n: u64) -> bool {
+    if n == 0 {
+        return false;
+    }
+    (n > 8) | has_bit(byte, ((n % 16 + 7) % 8) as u8)
+}
+
+// The event before a turn's last one, where there is one; else the last one is all.
+fn has_first(wish: Wish, turns: u64) -> bool {
+    match wish {
+        Wish::Edges => true,
+        Wish::Character(mask, byte) => turns % 384 == 0,
+        Wish::Set(register, mask) => turns != 0,
+        _ => false,
+    }
+}
+
+fn first_event(wish: Wish, turns: u64, pins: u8) -> Event {
+    match wish {
+        Wish::Edges => Event::Pins(255),
+        Wish::Character(mask, byte) => {
+            let level = frame_level(byte, turns / 384);
+            Event::Pins(pins & (255 - mask) | weight(level, mask))
+        }
+        _ => Event::Tick,
+    }
+}
+
+fn last_event(wish: Wish) -> Event {
+    match wish {
+        Wish::Edges => Event::Pins(247),
+        Wish::Set(register, mask) => Event::Read(register),
+        _ => Event::Tick,
+    }
+}
+
+fn turn(bench: Bench, wish: Wish, turns: u64) -> Bench {
+    let last = last_event(wish);
+    if has_first(wish, turns) {
+        return act(act(bench, first_event(wish, turns, bench.pins)), last);
+    }
+    act(bench, last)
+}
+
+// Of the answer to the turn before: its data byte, and TxDA.
+fn is_over(wish: Wish, turns: u64, byte: u8, txda: bool) -> bool {
+    match wish {
+        Wish::Set(register, mask) => (turns != 0) & (byte & mask != 0),
+        Wish::Leaves(level) => txda != level,
+        _ => false,
+    }
+}
+
+// Where it stopped, and after how many turns.
+pub struct Stopped {
+    pub bench: Bench,
+    pub turns: u64,
+}
+
+pub fn go(bench: Bench, wish: Wish, most: u64) -> Stopped {
     let mut next = bench;
-    let mut left = times;
-    while left > 0 {
-        next = tick(next);
-        left -= 1;
+    let mut turns = 0u64;
+    while turns < most && !is_over(wish, turns, next.answer.byte, next.answer.lines.txda) {
+        next = turn(next, wish, turns);
+        turns += 1;
     }
-    next
-}
-
-// So many falling edges on IP3, channel A's external transmitter clock.
-pub fn clock(bench: Bench, times: u8) -> Bench {
-    let mut next = bench;
-    let mut left = times;
-    while left > 0 {
-        next = set_pins(set_pins(next, 255), 247);
-        left -= 1;
+    Stopped {
+        bench: next,
+        turns: turns,
     }
-    next
-}
-
-// A level on RxDA (mask 64) or RxDB (mask 128) for one bit at 9600 bits a second: 384 ticks.
-fn bit_arrives(bench: Bench, mask: u8, level: bool) -> Bench {
-    let low = bench.pins & (255 - mask);
-    let levels = low | weight(level, mask);
-    ticks(set_pins(bench, levels), 384)
-}
-
-// Start bit, eight data bits, the lowest first, and a high bit.
-pub fn arrives(bench: Bench, mask: u8, byte: u8) -> Bench {
-    let mut next = bit_arrives(bench, mask, false);
-    let mut rest = byte;
-    let mut i = 0u8;
-    while i < 8 {
-        next = bit_arrives(next, mask, rest % 2 == 1);
-        rest = rest / 2;
-        i += 1;
-    }
-    bit_arrives(next, mask, true)
-}
-
-// Reads a register until one of the masked bits is set, a tick after each read, at most 20,000 times.
-pub fn poll(bench: Bench, register: u8, mask: u8) -> Bench {
-    let mut next = act(bench, Event::Read(register));
-    let mut left = 20000u64;
-    while left > 0 && next.answer.byte & mask == 0 {
-        next = act(tick(next), Event::Read(register));
-        left -= 1;
-    }
-    next
 }
 
 // How many ticks TxDA stays at this level, at most 100,000.
-pub struct Held {
-    pub bench: Bench,
-    pub ticks: u64,
-}
-
-pub fn hold(bench: Bench, level: bool) -> Held {
-    let mut next = bench;
-    let mut count = 0u64;
-    while count < 100000 && next.answer.lines.txda == level {
-        next = tick(next);
-        count += 1;
-    }
-    Held {
-        bench: next,
-        ticks: count,
-    }
+pub fn hold(bench: Bench, level: bool) -> Stopped {
+    go(bench, Wish::Leaves(level), 100000)
 }

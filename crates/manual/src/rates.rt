@@ -1,5 +1,6 @@
 // The 18 rates of 004, table 4-5, each measured on TxDA.
 use crate::bench::Bench;
+use crate::bench::Stopped;
 use crate::bench::act;
 use crate::bench::hold;
 use crate::bench::start;
@@ -23,33 +24,64 @@ struct Rate {
     thousandths: u64,
 }
 
+fn write_both(bench: Bench, first: u8, byte: u8, second: u8, next: u8) -> Bench {
+    act(
+        act(bench, Event::Write(first, byte)),
+        Event::Write(second, next),
+    )
+}
+
 // Channel A's transmitter with this clock and format, and a byte to send.
 pub fn sending(acr: u8, csr: u8, mr1: u8, mr2: u8, byte: u8) -> Bench {
-    let clocked = act(act(start(), Event::Write(4, acr)), Event::Write(1, csr));
-    let formatted = act(act(clocked, Event::Write(0, mr1)), Event::Write(0, mr2));
-    act(act(formatted, Event::Write(2, 4)), Event::Write(3, byte))
+    let clocked = write_both(start(), 4, acr, 1, csr);
+    write_both(write_both(clocked, 0, mr1, 0, mr2), 2, 4, 3, byte)
+}
+
+// So far: TxDA's level now, the ticks of the first bit, and whether all others took as many.
+struct Measured {
+    bench: Bench,
+    level: bool,
+    first: u64,
+    same: bool,
+}
+
+fn next_bit(measured: Measured) -> Measured {
+    let held = hold(measured.bench, measured.level);
+    let bench = held.bench;
+    Measured {
+        bench: bench,
+        level: !measured.level,
+        first: measured.first,
+        same: measured.same & (held.turns == measured.first),
+    }
+}
+
+fn next_two(measured: Measured) -> Measured {
+    next_bit(next_bit(measured))
+}
+
+fn next_four(measured: Measured) -> Measured {
+    next_two(next_two(measured))
+}
+
+// From the start bit on.
+fn first_bit(idle: Stopped) -> Measured {
+    let start = hold(idle.bench, false);
+    let bench = start.bench;
+    Measured {
+        bench: bench,
+        level: true,
+        first: start.turns,
+        same: true,
+    }
 }
 
 // The ticks of one bit of 85, whose ten bits differ each from the one before; 0 where the nine that an
 // edge ends are not all as long.
 fn measure(acr: u8, code: u8) -> u64 {
-    let idle = hold(sending(acr, code, 19, 7, 85), true);
-    let mut bench = idle.bench;
-    let mut level = false;
-    let mut first = 0u64;
-    let mut same = true;
-    let mut i = 0u8;
-    while i < 9 {
-        let held = hold(bench, level);
-        bench = held.bench;
-        if i == 0 {
-            first = held.ticks;
-        }
-        same = same & (held.ticks == first);
-        level = !level;
-        i += 1;
-    }
-    if same { first } else { 0 }
+    let first = first_bit(hold(sending(acr, code, 19, 7, 85), true));
+    let all = next_four(next_four(first));
+    if all.same { all.first } else { 0 }
 }
 
 // The ticks of a bit in the sets that have the rate; 0 where both have it and do not agree.

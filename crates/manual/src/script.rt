@@ -1,12 +1,9 @@
 // An example as a script, run on a fresh chip, each of its words printed and compared.
 use crate::bench::Bench;
+use crate::bench::Wish;
 use crate::bench::act;
-use crate::bench::arrives;
-use crate::bench::clock;
-use crate::bench::poll;
-use crate::bench::set_pins;
+use crate::bench::go;
 use crate::bench::start;
-use crate::bench::ticks;
 use crate::text::print;
 use crate::text::print_verdict;
 use crate::trace::judge;
@@ -14,7 +11,7 @@ use crate::word::Look;
 use crate::word::Word;
 use crate::word::event_of;
 use crate::word::first_byte;
-use crate::word::is_access;
+use crate::word::is_event;
 use crate::word::last_byte;
 use crate::word::no_word;
 use crate::word::with_byte;
@@ -31,32 +28,36 @@ fn look_at(bench: Bench) -> Look {
 }
 
 // What comes in over time: ticks, edges, characters, reads until a bit is set.
-fn wait(bench: Bench, word: Word) -> Bench {
+fn wish_of(word: Word) -> Wish {
     let letter = word.letter;
     match letter {
-        b't' => ticks(bench, word.last),
-        b'c' => clock(bench, last_byte(word)),
-        b'a' => arrives(bench, 64, last_byte(word)),
-        b'b' => arrives(bench, 128, last_byte(word)),
-        b'q' => poll(bench, first_byte(word), last_byte(word)),
-        _ => bench,
+        b'c' => Wish::Edges,
+        b'a' => Wish::Character(64, last_byte(word)),
+        b'b' => Wish::Character(128, last_byte(word)),
+        b'q' => Wish::Set(first_byte(word), last_byte(word)),
+        _ => Wish::Ticks,
     }
 }
 
-// Does a word to the chip; one that looks at a line does nothing.
+// How long at most: a character is ten bits. A word that looks at a line takes no time.
+fn most_turns(word: Word) -> u64 {
+    let letter = word.letter;
+    match letter {
+        b't' => word.last,
+        b'c' => word.last % 256,
+        b'a' | b'b' => 3840,
+        b'q' => 20001,
+        _ => 0,
+    }
+}
+
 fn drive(bench: Bench, word: Word) -> Bench {
-    if is_access(word.letter) {
+    if is_event(word.letter) {
         return act(bench, event_of(word));
     }
-    if word.letter == b'p' {
-        return set_pins(bench, last_byte(word));
-    }
-    if word.letter == b'j' {
-        let mut next = bench;
-        next.wired = true;
-        return next;
-    }
-    wait(bench, word)
+    let mut next = go(bench, wish_of(word), most_turns(word)).bench;
+    next.wired = next.wired | (word.letter == b'j');
+    next
 }
 
 // Whether every word agrees. A script that ends within a word does not.

@@ -23,8 +23,8 @@ fn measured(mr1: u8, code: u8) -> u64 {
     let idle = hold(sending(0, 12, mr1, code, 0), true);
     let low = hold(act(idle.bench, Event::Write(3, 0)), false);
     let high = hold(low.bench, true);
-    let bit = quotient(low.ticks, pulses_before(mr1) / 16);
-    quotient(high.ticks % 1000000 * 1000, bit)
+    let bit = quotient(low.turns, pulses_before(mr1) / 16);
+    quotient(high.turns % 1000000 * 1000, bit)
 }
 
 // What the frame request's length leaves after start and data, in thousandths of 16 pulses.

@@ -87,6 +87,11 @@ pub fn is_access(letter: u8) -> bool {
     is_read(letter) | is_write(letter) | (letter == b'k') | (letter == b'z')
 }
 
+// What is one event: an access, or the pins.
+pub fn is_event(letter: u8) -> bool {
+    is_access(letter) | (letter == b'p')
+}
+
 pub fn is_line(letter: u8) -> bool {
     (letter == b'i') | (letter == b'd') | (letter == b'e') | (letter == b'o')
 }
@@ -100,6 +105,9 @@ pub fn event_of(word: Word) -> Event {
     }
     if word.letter == b'z' {
         return Event::ChipReset;
+    }
+    if word.letter == b'p' {
+        return Event::Pins(last_byte(word));
     }
     Event::Write(first_byte(word), last_byte(word))
 }

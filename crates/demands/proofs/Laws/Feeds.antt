@@ -16,7 +16,8 @@ use Rattle.inputs.specs.Inputs.{movedOf, pinsOfA, pinsOfB}
 use Rattle.outputs.specs.Outputs.{opcrNotModelled}
 use Rattle.side.specs.Side.{modeNotModelled}
 use Rattle.side_clocks.specs.Clocking.{settingOf, lineOf, sideClocked}
-use Rattle.commands.specs.Commands.{commandForbidden, commandFeed}
+use Rattle.commands.specs.Commands.{commandFeed}
+use Rattle.events.specs.Refusals.{commandForbidden, registerAbove15, forbiddenRead, forbiddenCommand}
 use Rattle.front.specs.declared.front.Front.{Front}
 use Rattle.front.specs.declared.front.Handed.{Handed}
 use Rattle.front_clocks.specs.Clocking.{clockedWith, clockedOf, levelsMoved}
@@ -24,7 +25,6 @@ use Rattle.reads.specs.Reads.{sideRead, registerRead}
 use Rattle.writes.specs.Writes.{sideWritten, registerWritten}
 use Rattle.events.specs.declared.events.Event.{Event}
 use Rattle.events.specs.declared.events.Event.the-variants.{ChipReset, Read, Write, Acknowledge, Pins, Tick}
-use Rattle.events.specs.Refusals.{registerAbove15, forbiddenRead, forbiddenCommand}
 use Rattle.front_events.specs.FrontEvents.{frontStepped}
 use Rattle.front_events.specs.NotModelled.{writeNotModelled, settingNotModelled}
 use Rattle.chip.specs.Alone.{handedAfter}

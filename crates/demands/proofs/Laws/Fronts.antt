@@ -15,7 +15,8 @@ use Rattle.outputs.specs.Outputs.{bitsSet, bitsReset, outputsChosen, opcrNotMod
 use Rattle.side.specs.declared.side.Side.{Side}
 use Rattle.side.specs.Side.{freshSide, withTransmitter, withClocks, modeNotModelled, pointedAt, modeWritten, csrWritten, setChanged, bufferWritten}
 use Rattle.side_clocks.specs.Clocking.{transmitterPulsed, sideClocked}
-use Rattle.commands.specs.Commands.{commandForbidden, sideCommanded}
+use Rattle.commands.specs.Commands.{sideCommanded}
+use Rattle.events.specs.Refusals.{commandForbidden, registerAbove15, forbiddenRead, forbiddenCommand}
 use Rattle.counting.specs.Counting.{withPreload, modeOf}
 use Rattle.timer.specs.Timer.{startedOf, stoppedOf, modeChanged, transmittedBy}
 use Rattle.front.specs.declared.front.Front.{Front}
@@ -27,7 +28,6 @@ use Rattle.writes.specs.Writes.{commanded, preloadHigh, preloadLow, acrWritten,
 use Rattle.writes.specs.Writes as Writes
 use Rattle.events.specs.declared.events.Event.{Event}
 use Rattle.events.specs.declared.events.Event.the-variants.{ChipReset, Read, Write, Acknowledge, Pins, Tick}
-use Rattle.events.specs.Refusals.{registerAbove15, forbiddenRead, forbiddenCommand}
 use Rattle.front_events.specs.FrontEvents.{frontStepped}
 use Rattle.front_events.specs.NotModelled.{writeNotModelled, settingNotModelled}
 use Rattle.chip.specs.Alone.{handedAfter}

@@ -22,7 +22,8 @@ use Rattle.inputs.specs.Inputs.{movedOf, pinsOfA, pinsOfB}
 use Rattle.side.specs.declared.side.Side.{Side}
 use Rattle.side.specs.Side.{freshSide, modeNotModelled, modeWritten, csrWritten, setChanged, bufferWritten}
 use Rattle.side_clocks.specs.Clocking.{transmitterPulsed}
-use Rattle.commands.specs.Commands.{commandForbidden, transmitterEffect, transmitterEnabling, sideCommanded}
+use Rattle.commands.specs.Commands.{transmitterEffect, transmitterEnabling, sideCommanded}
+use Rattle.events.specs.Refusals.{commandForbidden}
 use Rattle.front.specs.declared.front.Front.{Front}
 use Rattle.front.specs.Front.{frontAt}
 use Rattle.events.specs.declared.events.Event.{Event}

@@ -1,18 +1,17 @@
 -- The table of answers by its rows: where none of rows 1 to 6 applies, what comes after them answers; else the first of them does, whatever
 -- comes after. So each way out of `step` is the table's answer. Assumes nothing.
 use Prim.Native.Nat.{ℕ}
-use mathlib.Core.Path.{_≡_, refl, sym, _∙_}
-use mathlib.Core.Bool.{Bool, true, false, not}
-use borrow.Author.Tests.{eq-eqb, ne-eqb}
+use mathlib.Core.Path.{_≡_, refl, _∙_}
+use mathlib.Core.Bool.{Bool, true, false}
+use borrow.Author.Tests.{ne-eqb}
 use native.Mathlib.Omega.{arith}
-use lib.Dec.{eqb}
 use Rattle.format.specs.Pick.{pick}
 use Rattle.events.specs.declared.events.Event.{Event}
 use Rattle.events.specs.Refusals.{registerAbove15, forbiddenRead, forbiddenCommand}
 use Rattle.front_events.specs.NotModelled.{settingNotModelled}
 use Rattle.device.specs.declared.device.Device.{Device}
 use Rattle.device.specs.Device.{isSoundOf}
-use Rattle.duart.specs.Duart.{takenOf, numberOf, refusedOf, acceptedOf, stepOf}
+use Rattle.duart.specs.Duart.{takenOf, newUnsound, numberOf, refusedOf, acceptedOf, stepOf}
 use Rattle.refusals.specs.Refusals.{unsound, acknowledgedUnasserted, sixRows, firstOf}
 
 none-of-six : (a b c d e f : Bool) (after : ℕ) → sixRows a b c d e f 0 ≡ 0 → sixRows a b c d e f after ≡ after
@@ -65,4 +64,4 @@ refuses-seven d e h s = rw (number-seven d e h s)
 
 pub refuses-first : (d : Device) (e : Event) → (firstOf d e 0 ≡ 0 → ⊥) → stepOf d e ≡ refusedOf d (firstOf d e 0)
 unfolding stepOf numberOf pick
-refuses-first d e h = rw (some-first d e _ h, ne-eqb _ 0 h)
+refuses-first d e h = rw (some-first d e (pick (newUnsound d e) 7 0) h, ne-eqb (firstOf d e 0) 0 h)

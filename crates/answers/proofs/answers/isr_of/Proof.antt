@@ -2,7 +2,6 @@
 use Prim.{tt}
 use Rattle.answers.proofs.answers.isr_of.Statement.{statement}
 use Rattle.answers.proofs.answers.isr_of.Tie as tie
-use Rattle.answers.specs.Answers.{isrOf}
 
 has-chosen-change-requires : tie.Need-has-chosen-change-requires
 has-chosen-change-requires c κs = tt
@@ -11,7 +10,6 @@ interrupt-status-requires : tie.Need-interrupt-status-requires
 interrupt-status-requires c κs = tt
 
 returns : tie.Need-returns
-unfolding isrOf
 returns c = simp (c .interrupt-status .ensures, c .before .has-chosen-change .ensures)
 
 pub isr-of-spec : {M : Type 1} → statement M

@@ -2,13 +2,11 @@
 use Prim.{tt}
 use Rattle.duart.proofs.duart.accept.Statement.{statement}
 use Rattle.duart.proofs.duart.accept.Tie as tie
-use Rattle.duart.specs.Duart.{acceptedOf}
 
 device-lines-requires : tie.Need-device-lines-requires
 device-lines-requires c κs = tt
 
 returns : tie.Need-returns
-unfolding acceptedOf
 returns c = simp (c .device-lines .ensures)
 
 pub accept-spec : {M : Type 1} → statement M

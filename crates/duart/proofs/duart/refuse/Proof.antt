@@ -2,13 +2,11 @@
 use Prim.{tt}
 use Rattle.duart.proofs.duart.refuse.Statement.{statement}
 use Rattle.duart.proofs.duart.refuse.Tie as tie
-use Rattle.duart.specs.Duart.{refusedOf}
 
 refusal-lines-requires : tie.Need-refusal-lines-requires
 refusal-lines-requires c κs = tt
 
 returns : tie.Need-returns
-unfolding refusedOf
 returns c = simp (c .refusal-lines .ensures)
 
 pub refuse-spec : {M : Type 1} → statement M

@@ -25,27 +25,27 @@ enum-told-3 c = search needs
 
 returns : tie.Need-returns
 unfolding forbiddenRead pick
-returns c = simp (c .enum-told .given .1, c .before .match .keys1)
+returns c = simp (c .enum-told .given .1)
 
 returns-2 : tie.Need-returns-2
 unfolding forbiddenRead pick
-returns-2 c = simp (c .before .event .given .1, c .before .before .match .keys2)
+returns-2 c = simp (c .before .event .given .1)
 
 returns-3 : tie.Need-returns-3
 unfolding forbiddenRead pick
-returns-3 c = simp (c .before .event2 .given .1, c .before .before .match .keys3)
+returns-3 c = simp (c .before .event2 .given .1)
 
 returns-4 : tie.Need-returns-4
 unfolding forbiddenRead pick
-returns-4 c = simp (c .enum-told2 .given .1, c .before .match .keys4)
+returns-4 c = simp (c .enum-told2 .given .1)
 
 returns-5 : tie.Need-returns-5
 unfolding forbiddenRead pick
-returns-5 c = simp (c .before .event3 .given .1, c .before .before .match .keys5)
+returns-5 c = simp (c .before .event3 .given .1)
 
 returns-6 : tie.Need-returns-6
 unfolding forbiddenRead pick
-returns-6 c = simp (c .enum-told3 .given .1, c .before .match .keys6)
+returns-6 c = simp (c .enum-told3 .given .1)
 
 pub is-forbidden-read-spec : {M : Type 1} → statement M
 is-forbidden-read-spec =

@@ -2,13 +2,11 @@
 use Prim.{tt}
 use Rattle.front_events.proofs.front_events.reset_front.Statement.{statement}
 use Rattle.front_events.proofs.front_events.reset_front.Tie as tie
-use Rattle.front_events.specs.FrontEvents.{frontReset}
 
 front-at-requires : tie.Need-front-at-requires
 front-at-requires c κs = tt
 
 returns : tie.Need-returns
-unfolding frontReset
 returns c = simp (c .front-at .ensures)
 
 pub reset-front-spec : {M : Type 1} → statement M

@@ -44,27 +44,27 @@ tick-front-requires c κs = tt
 
 returns : tie.Need-returns
 unfolding frontStepped pick
-returns c = simp (c .reset-front .ensures, c .before .enum-told .given .1, c .before .before .match .keys1)
+returns c = simp (c .reset-front .ensures, c .before .enum-told .given .1)
 
 returns-2 : tie.Need-returns-2
 unfolding frontStepped pick
-returns-2 c = simp (c .read-register .ensures, c .before .before .event .given .1, c .before .before .before .match .keys2)
+returns-2 c = simp (c .read-register .ensures, c .before .before .event .given .1)
 
 returns-3 : tie.Need-returns-3
 unfolding frontStepped pick
-returns-3 c = simp (c .write-register .ensures, c .before .before .event2 .given .1, c .before .before .before .match .keys3)
+returns-3 c = simp (c .write-register .ensures, c .before .before .event2 .given .1)
 
 returns-4 : tie.Need-returns-4
 unfolding frontStepped pick
-returns-4 c = simp (c .acknowledge .ensures, c .before .enum-told2 .given .1, c .before .before .match .keys4)
+returns-4 c = simp (c .acknowledge .ensures, c .before .enum-told2 .given .1)
 
 returns-5 : tie.Need-returns-5
 unfolding frontStepped pick
-returns-5 c = simp (c .move-levels .ensures, c .before .before .event3 .given .1, c .before .before .before .match .keys5)
+returns-5 c = simp (c .move-levels .ensures, c .before .before .event3 .given .1)
 
 returns-6 : tie.Need-returns-6
 unfolding frontStepped pick
-returns-6 c = simp (c .tick-front .ensures, c .before .enum-told3 .given .1, c .before .before .match .keys6)
+returns-6 c = simp (c .tick-front .ensures, c .before .enum-told3 .given .1)
 
 pub step-front-spec : {M : Type 1} → statement M
 step-front-spec =

@@ -2,7 +2,6 @@
 use borrow.Author.Needs.{needs}
 use Rattle.inputs.proofs.inputs.channel_pins.Statement.{statement}
 use Rattle.inputs.proofs.inputs.channel_pins.Tie as tie
-use Rattle.inputs.specs.Inputs.{channelPins}
 
 has-bit-requires : tie.Need-has-bit-requires
 has-bit-requires c κs = search needs
@@ -17,7 +16,6 @@ falls-requires : tie.Need-falls-requires
 falls-requires c κs = search needs
 
 returns : tie.Need-returns
-unfolding channelPins
 returns c = simp (c .falls .ensures, c .before .rises .ensures, c .before .before .has-bit2 .ensures, c .before .before .before .has-bit .ensures)
 
 pub channel-pins-spec : {M : Type 1} → statement M

@@ -2,7 +2,6 @@
 use borrow.Author.Needs.{needs}
 use Rattle.inputs.proofs.inputs.falls.Statement.{statement}
 use Rattle.inputs.proofs.inputs.falls.Tie as tie
-use Rattle.inputs.specs.Inputs.{fallsOf}
 
 has-bit-requires : tie.Need-has-bit-requires
 has-bit-requires c κs = search needs
@@ -11,7 +10,6 @@ has-bit-requires-2 : tie.Need-has-bit-requires-2
 has-bit-requires-2 c κs = search needs
 
 returns : tie.Need-returns
-unfolding fallsOf
 returns c = simp (c .has-bit2 .ensures, c .before .has-bit .ensures)
 
 pub falls-spec : {M : Type 1} → statement M

@@ -2,13 +2,11 @@
 use Prim.{tt}
 use Rattle.reads.proofs.reads.read_flags.Statement.{statement}
 use Rattle.reads.proofs.reads.read_flags.Tie as tie
-use Rattle.reads.specs.Reads.{flagsRead}
 
 clear-changes-requires : tie.Need-clear-changes-requires
 clear-changes-requires c κs = tt
 
 returns : tie.Need-returns
-unfolding flagsRead
 returns c = simp (c .clear-changes .ensures)
 
 pub read-flags-spec : {M : Type 1} → statement M

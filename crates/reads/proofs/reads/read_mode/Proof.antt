@@ -2,7 +2,6 @@
 use Prim.{tt}
 use Rattle.reads.proofs.reads.read_mode.Statement.{statement}
 use Rattle.reads.proofs.reads.read_mode.Tie as tie
-use Rattle.reads.specs.Reads.{modeRead}
 
 point-requires : tie.Need-point-requires
 point-requires c κs = tt
@@ -11,7 +10,6 @@ hand-side-requires : tie.Need-hand-side-requires
 hand-side-requires c κs = tt
 
 returns : tie.Need-returns
-unfolding modeRead
 returns c = simp (c .hand-side .ensures, c .before .point .ensures)
 
 pub read-mode-spec : {M : Type 1} → statement M

@@ -2,7 +2,6 @@
 use Prim.{tt}
 use Rattle.reads.proofs.reads.start.Statement.{statement}
 use Rattle.reads.proofs.reads.start.Tie as tie
-use Rattle.reads.specs.Reads.{counterStarted}
 
 mode-of-requires : tie.Need-mode-of-requires
 mode-of-requires c κs = tt
@@ -11,7 +10,6 @@ start-counter-requires : tie.Need-start-counter-requires
 start-counter-requires c κs = tt
 
 returns : tie.Need-returns
-unfolding counterStarted
 returns c = simp (c .start-counter .ensures, c .before .mode-of .ensures)
 
 pub start-spec : {M : Type 1} → statement M

@@ -2,7 +2,6 @@
 use Prim.{tt}
 use Rattle.reads.proofs.reads.stop.Statement.{statement}
 use Rattle.reads.proofs.reads.stop.Tie as tie
-use Rattle.reads.specs.Reads.{counterStopped}
 
 mode-of-requires : tie.Need-mode-of-requires
 mode-of-requires c κs = tt
@@ -11,7 +10,6 @@ stop-counter-requires : tie.Need-stop-counter-requires
 stop-counter-requires c κs = tt
 
 returns : tie.Need-returns
-unfolding counterStopped
 returns c = simp (c .stop-counter .ensures, c .before .mode-of .ensures)
 
 pub stop-spec : {M : Type 1} → statement M

@@ -2,7 +2,6 @@
 use Prim.{tt}
 use Rattle.refusals.proofs.refusals.is_device_asserted.Statement.{statement}
 use Rattle.refusals.proofs.refusals.is_device_asserted.Tie as tie
-use Rattle.refusals.specs.Refusals.{deviceAsserted}
 
 show-channel-requires : tie.Need-show-channel-requires
 show-channel-requires c κs = tt
@@ -14,7 +13,6 @@ is-asserted-requires : tie.Need-is-asserted-requires
 is-asserted-requires c κs = tt
 
 returns : tie.Need-returns
-unfolding deviceAsserted
 returns c = simp (c .is-asserted .ensures, c .before .show-channel2 .ensures, c .before .before .show-channel .ensures)
 
 pub is-device-asserted-spec : {M : Type 1} → statement M

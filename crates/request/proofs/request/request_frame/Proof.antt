@@ -56,7 +56,7 @@ returns : tie.Need-returns
 returns c =
     let at = c .before .before .before .before in
     let a = at .before .before .before .before .before .before .before .args in
-    (answered at, c .before .before .write-levels .ensures ∙ rw (answered at) (over-asked (a .mr1) (a .mr2) (a .byte) (now (a .space))))
+    (answered at, rw (c .before .before .write-levels .ensures, answered at) (over-asked (a .mr1) (a .mr2) (a .byte) (now (a .space))))
 
 pub request-frame-spec : {M : Type 1} → statement M
 request-frame-spec =

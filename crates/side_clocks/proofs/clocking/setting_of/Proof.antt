@@ -2,7 +2,6 @@
 use Prim.{tt}
 use Rattle.side_clocks.proofs.clocking.setting_of.Statement.{statement}
 use Rattle.side_clocks.proofs.clocking.setting_of.Tie as tie
-use Rattle.side_clocks.specs.Clocking.{settingOf}
 
 format-of-requires : tie.Need-format-of-requires
 format-of-requires c κs = tt
@@ -11,7 +10,6 @@ is-sixteen-requires : tie.Need-is-sixteen-requires
 is-sixteen-requires c κs = tt
 
 returns : tie.Need-returns
-unfolding settingOf
 returns c = simp (c .is-sixteen .ensures, c .before .before .format-of .ensures)
 
 pub setting-of-spec : {M : Type 1} → statement M

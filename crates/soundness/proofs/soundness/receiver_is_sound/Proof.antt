@@ -2,7 +2,6 @@
 use Prim.{tt}
 use Rattle.soundness.proofs.soundness.receiver_is_sound.Statement.{statement}
 use Rattle.soundness.proofs.soundness.receiver_is_sound.Tie as tie
-use Rattle.soundness.specs.Soundness.{receiverSound}
 
 sampler-in-range-requires : tie.Need-sampler-in-range-requires
 sampler-in-range-requires c κs = tt
@@ -11,7 +10,6 @@ one-waits-requires : tie.Need-one-waits-requires
 one-waits-requires c κs = tt
 
 returns : tie.Need-returns
-unfolding receiverSound
 returns c = simp (c .before .one-waits .ensures, c .before .before .before .sampler-in-range .ensures)
 
 pub receiver-is-sound-spec : {M : Type 1} → statement M

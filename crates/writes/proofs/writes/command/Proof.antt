@@ -2,7 +2,6 @@
 use Prim.{tt}
 use Rattle.writes.proofs.writes.command.Statement.{statement}
 use Rattle.writes.proofs.writes.command.Tie as tie
-use Rattle.writes.specs.Writes.{commanded}
 
 command-side-requires : tie.Need-command-side-requires
 command-side-requires c κs = tt
@@ -14,7 +13,6 @@ hand-side-requires : tie.Need-hand-side-requires
 hand-side-requires c κs = tt
 
 returns : tie.Need-returns
-unfolding commanded
 returns c = simp (c .hand-side .ensures, c .before .command-feed .ensures, c .before .before .command-side .ensures)
 
 pub command-spec : {M : Type 1} → statement M

@@ -1,7 +1,7 @@
 -- `command_forbidden` meets its contract: its tests are the definition's. Assumes nothing.
 use borrow.Author.Needs.{needs}
-use Rattle.commands.proofs.commands.command_forbidden.Statement.{statement}
-use Rattle.commands.proofs.commands.command_forbidden.Tie as tie
+use Rattle.events.proofs.refusals.command_forbidden.Statement.{statement}
+use Rattle.events.proofs.refusals.command_forbidden.Tie as tie
 
 returns : tie.Need-returns
 returns c = search needs
