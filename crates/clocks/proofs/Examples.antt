@@ -21,6 +21,10 @@ toggle = record { tick = false; toggled = true; rising = false; falling = false 
 abbrev fall : ClockEvent
 fall = record { tick = false; toggled = false; rising = false; falling = true }
 
+-- phases that are under way
+abbrev pub midway : Phases
+midway = record { receiver = record { 0 = 5 }; transmitter = record { 0 = 6 }; sixteenths = record { 0 = 7 } }
+
 -- what the tick after n ticks since a restart brings, with code 11 on both sides
 abbrev eleventh : Bool → ℕ → Clocked
 eleventh second n = next clockedOf second 187 (replicate n tick) tick

@@ -8,10 +8,7 @@ use Rattle.format.specs.Pick.{pick}
 use Rattle.clocks.specs.declared.channel.ClockEvent.{ClockEvent}
 use Rattle.clocks.specs.declared.channel.Phases.{Phases}
 use Rattle.clocks.specs.Channel.{restarted, restartedOnChange, isSixteen, sideOf, clockedOf}
-
--- under way
-abbrev some : Phases
-some = record { receiver = record { 0 = 5 }; transmitter = record { 0 = 6 }; sixteenths = record { 0 = 7 } }
+use Rattle.clocks.proofs.Examples.{midway}
 
 -- "A CSR write restarts that channel's phases": the 1X clock's too
 no-restartOnePulseOn : 1 ≡ restarted .sixteenths .0 → ⊥
@@ -20,7 +17,7 @@ no-restartOnePulseOn = omega arith
 -- "a change of ACR bit 7 restarts all four": here any write does
 no-anyWriteRestarts : ((p : Phases) (before after : ℕ) → 0 ≡ restartedOnChange p before after .receiver .0) → ⊥
 unfolding restartedOnChange pick
-no-anyWriteRestarts h = omega (arith, h some 0 0)
+no-anyWriteRestarts h = omega (arith, h midway 0 0)
 
 -- "14 (16X), 15 (1X)"
 no-code14Is1x : ((code : ℕ) → ltb code 14 ≡ isSixteen code) → ⊥
@@ -33,4 +30,4 @@ no-receiverByLowBits :
     → ⊥
 unfolding clockedOf sideOf pick
 no-receiverByLowBits h =
-    false≢true (h some false 237 (record { tick = false; toggled = false; rising = true; falling = false }))
+    false≢true (h midway false 237 (record { tick = false; toggled = false; rising = true; falling = false }))

@@ -53,6 +53,7 @@ fn passes_on(wired: bool, event: Event) -> bool {
     }
 }
 
+// The event, and the pins after it where a wire passes on what a tick did.
 pub fn act(bench: Bench, event: Event) -> Bench {
     let next = take(bench, event);
     let levels = wired_levels(next.pins, next.answer.lines.txda, next.answer.lines.txdb);
@@ -70,7 +71,7 @@ pub enum Wish {
     Edges,
     // a tick, while a byte comes in on RxDA (mask 64) or RxDB (mask 128), one bit in 384: 9600 bits a second
     Character(u8, u8),
-    // a read of a register, and a tick before each other one, until one of the masked bits is set
+    // a read of a register, after the first one with a tick before it, until one of the masked bits is set
     Set(u8, u8),
     // a tick, until TxDA leaves the level
     Leaves(bool),

@@ -5,13 +5,9 @@ use mathlib.Core.Bool.{true, false≢true}
 use native.Mathlib.Omega.{arith}
 use Rattle.format.specs.Format.{mr1NotModelled, mr2NotModelled}
 use Rattle.format.specs.Pick.{pick}
-use Rattle.clocks.specs.declared.channel.Phases.{Phases}
+use Rattle.clocks.proofs.Examples.{midway}
 use Rattle.side.specs.declared.side.Side.{Side}
 use Rattle.side.specs.Side.{freshSide, withClocks, modeNotModelled, pointedAt, csrWritten}
-
--- under way
-abbrev some : Phases
-some = record { receiver = record { 0 = 5 }; transmitter = record { 0 = 6 }; sixteenths = record { 0 = 7 } }
 
 -- "MR2 bits 7-6 not 00, or bit 5 set"
 no-mr2ChannelModes :
@@ -24,4 +20,4 @@ no-mr2ChannelModes h = false≢true (h (pointedAt freshSide true) 64)
 -- "A CSR write restarts that channel's phases"
 no-csrKeepsPhases : ((s : Side) (byte : ℕ) → s .phases .receiver .0 ≡ csrWritten s byte .phases .receiver .0) → ⊥
 unfolding csrWritten
-no-csrKeepsPhases h = omega (arith, h (withClocks freshSide 0 some) 0)
+no-csrKeepsPhases h = omega (arith, h (withClocks freshSide 0 midway) 0)
