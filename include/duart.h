@@ -1,8 +1,8 @@
 /*
  * The MC68681 serial chip (DUART), proved: what a board maker links.
  *
- * `rt staticlib board` writes target/staticlib/libboard.a, which holds the four functions below. Each is proved to
- * meet its contract (crates/board/src/board.rt) for every argument, so a caller owes no more than this:
+ * `rt staticlib duart` writes target/staticlib/libduart.a, which holds the four functions below. Each is proved to
+ * meet its contract (crates/duart/src/duart.rt) for every argument, so a caller owes no more than this:
  *
  *  - pointers lead to what they say, and are used by no other thread during the call;
  *  - every field of a struct is a value of its type. A bool is 0 or 1 and nothing else: a device that was filled from a file

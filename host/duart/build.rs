@@ -1,4 +1,4 @@
-//! Links the archive that `rt staticlib board` writes. `DUART_ARCHIVE_DIR` names another folder that holds it.
+//! Links the archive that `rt staticlib duart` writes. `DUART_ARCHIVE_DIR` names another folder that holds it.
 
 use std::path::{Path, PathBuf};
 
@@ -8,12 +8,12 @@ fn main() {
         Some(named) => PathBuf::from(named),
         None => here.join("../../target/staticlib"),
     };
-    let archive = folder.join("libboard.a");
+    let archive = folder.join("libduart.a");
     if !Path::new(&archive).exists() {
-        println!("cargo:warning=there is no libboard.a: run `rt staticlib board` in the repository's root first");
+        println!("cargo:warning=there is no libduart.a: run `rt staticlib duart` in the repository's root first");
     }
     println!("cargo:rustc-link-search=native={}", folder.display());
-    println!("cargo:rustc-link-lib=static=board");
+    println!("cargo:rustc-link-lib=static=duart");
     println!("cargo:rerun-if-changed={}", archive.display());
     println!("cargo:rerun-if-env-changed=DUART_ARCHIVE_DIR");
 }

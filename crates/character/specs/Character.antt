@@ -9,7 +9,8 @@ noMarks = record { broken = false; framing = false; parity = false }
 
 -- "the marks, each bit ORed"
 abbrev pub orMarks : Marks → Marks → Marks
-orMarks a b = record { broken = a .broken || b .broken; framing = a .framing || b .framing; parity = a .parity || b .parity }
+orMarks a b =
+    record { broken = a .broken || b .broken; framing = a .framing || b .framing; parity = a .parity || b .parity }
 
 -- a character without an error mark
 abbrev pub clean : ℕ → Character

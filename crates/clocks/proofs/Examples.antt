@@ -12,13 +12,13 @@ use Rattle.clocks.specs.declared.channel.Phases.{Phases}
 use Rattle.clocks.specs.Channel.{restarted, restartedOnChange, tickedOf, sideOf, transmitter1x, clockedOf}
 use Rattle.clocks.specs.Pulses.{afterEvents, next}
 
-abbrev tick : ClockEvent
+abbrev pub tick : ClockEvent
 tick = record { tick = true; toggled = false; rising = false; falling = false }
 
-abbrev toggle : ClockEvent
+abbrev pub toggle : ClockEvent
 toggle = record { tick = false; toggled = true; rising = false; falling = false }
 
-abbrev fall : ClockEvent
+abbrev pub fall : ClockEvent
 fall = record { tick = false; toggled = false; rising = false; falling = true }
 
 -- phases that are under way

@@ -61,11 +61,11 @@ divides =
 
 -- ---- a side of a channel ----
 
-abbrev phaseOf : Side → Phases → Ticks
+abbrev pub phaseOf : Side → Phases → Ticks
 phaseOf receives p = p .receiver
 phaseOf transmits p = p .transmitter
 
-abbrev sideIn : Side → Clocked → Divided
+abbrev pub sideIn : Side → Clocked → Divided
 sideIn side c = record { phase = phaseOf side (c .phases); pulse = pulsed side c }
 
 -- a channel's clocks are its two sides
@@ -118,7 +118,7 @@ since-restart side second csr bs h = rw (zero-add (ticksIn bs)) at (after-events
 
 -- ---- the 1X transmitter clock ----
 
-abbrev bitIn : Clocked → Sixteenth
+abbrev pub bitIn : Clocked → Sixteenth
 bitIn c = record { phase = c .phases .sixteenths; pulse = c .one }
 
 clocked-bit : (p : Phases) (second : Bool) (csr : ℕ) (b : ClockEvent)

@@ -20,6 +20,7 @@ use Rattle.clocks.specs.Channel.{restarted, isSixteen, tickedOf, sideOf,
 use Rattle.clocks.specs.Pulses.{Divider, phaseAfter, pulsesBy, Divides, Clock, afterEvents, ticksIn, sentIn, Clocks}
 use Rattle.clocks.specs.Pulses.Side.{transmits}
 use Rattle.clocks.specs.Sound.{KeepsPhases}
+use Rattle.clocks.proofs.Examples.{tick, toggle, fall}
 
 -- ---- dividers ----
 
@@ -85,17 +86,8 @@ ours : (p : Phases) (second : Bool) (csr : ℕ) (b : ClockEvent) → clockBy sid
 unfolding clockBy clockedOf
 ours p second csr b = refl
 
-abbrev tick : ClockEvent
-tick = record { tick = true; toggled = false; rising = false; falling = false }
-
-abbrev toggle : ClockEvent
-toggle = record { tick = false; toggled = true; rising = false; falling = false }
-
 abbrev rise : ClockEvent
 rise = record { tick = false; toggled = false; rising = true; falling = false }
-
-abbrev fall : ClockEvent
-fall = record { tick = false; toggled = false; rising = false; falling = true }
 
 -- the transmitter takes the rising edge
 abbrev takesRising : Clock

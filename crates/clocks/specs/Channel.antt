@@ -13,8 +13,8 @@ use Rattle.clocks.specs.declared.channel.ClockEvent.{ClockEvent}
 use Rattle.clocks.specs.declared.channel.Clocked.{Clocked}
 use Rattle.clocks.specs.declared.channel.Phases.{Phases}
 
--- "A CSR write restarts that channel's phases, the next pulse coming a full period later"; a chip reset too: "phase, flag, mark, last byte
--- read and output bit 0"
+-- "A CSR write restarts that channel's phases, the next pulse coming a full period later"; a chip reset too: "phase,
+-- flag, mark, last byte read and output bit 0"
 abbrev pub restarted : Phases
 restarted = record { receiver = record { 0 = 0 }; transmitter = record { 0 = 0 }; sixteenths = record { 0 = 0 } }
 
@@ -30,7 +30,8 @@ isSixteen code = not (eqb code 15)
 unfoldable pub tickedOf : Ticks → Ticks → Bool → Divided
 tickedOf phase period tick = pick tick (dividedOf phase period) (record { phase = phase; pulse = false })
 
--- One side in an event: its divider for codes 0 to 12; "13: the timer's toggle to high"; "14 (16X), 15 (1X)": its pin's edge.
+-- One side in an event: its divider for codes 0 to 12; "13: the timer's toggle to high"; "14 (16X), 15 (1X)": its pin's
+-- edge.
 unfoldable pub sideOf : Ticks → Bool → ℕ → ClockEvent → Bool → Divided
 sideOf phase second code b edge =
     pick (ltb code 13) (tickedOf phase (periodOf second code) (b .tick))

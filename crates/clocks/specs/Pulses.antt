@@ -1,5 +1,6 @@
--- What is owed of the dividers and of a channel's clocks, said of any way to divide and to clock, so that it can be proved of one and
--- proved false of others: "the next pulse coming a full period later", and each code's own source. Assumes nothing.
+-- What is owed of the dividers and of a channel's clocks, said of any way to divide and to clock, so that it can be
+-- proved of one and proved false of others: "the next pulse coming a full period later", and each code's own source.
+-- Assumes nothing.
 use Prim.Native.Nat.{ℕ, zero, suc, _+_, _*_, _/_, _%_, _<_}
 use mathlib.Core.Path.{_≡_}
 use mathlib.Core.Bool.{Bool, true, false, _&&_}
@@ -86,13 +87,19 @@ next c second csr bs b = c (afterEvents c restarted second csr bs) second csr b
 pub record Clocks (c : Clock) : Type 0 where
   -- codes 0 to 12: a pulse at each period-th tick since the restart, whatever else comes between
   pub fixed : (side : Side) (second : Bool) (csr : ℕ) (bs : List ClockEvent) (b : ClockEvent) → codeOf side csr < 13
-      → pulsed side (next c second csr bs b) ≡ (b .tick && eqb (suc (ticksIn bs) % periodOf second (codeOf side csr) .0) 0)
+      → pulsed side (next c second csr bs b)
+      ≡ (b .tick && eqb (suc (ticksIn bs) % periodOf second (codeOf side csr) .0) 0)
   -- "13: the timer's toggle to high"
-  pub timer : (side : Side) (p : Phases) (second : Bool) (csr : ℕ) (b : ClockEvent) → codeOf side csr ≡ 13 → pulsed side (c p second csr b) ≡ b .toggled
+  pub timer : (side : Side) (p : Phases) (second : Bool) (csr : ℕ) (b : ClockEvent) → codeOf side csr ≡ 13
+      → pulsed side (c p second csr b) ≡ b .toggled
   -- "14 (16X), 15 (1X)": the pin's edge
-  pub pin : (side : Side) (p : Phases) (second : Bool) (csr : ℕ) (b : ClockEvent) → 13 < codeOf side csr → pulsed side (c p second csr b) ≡ edgeOf side b
+  pub pin : (side : Side) (p : Phases) (second : Bool) (csr : ℕ) (b : ClockEvent) → 13 < codeOf side csr
+      → pulsed side (c p second csr b) ≡ edgeOf side b
   -- the 1X transmitter clock: "every 16th 16X pulse since that phase restarted"
-  pub sixteenth : (second : Bool) (csr : ℕ) (bs : List ClockEvent) (b : ClockEvent) → isSixteen (codeOf transmits csr) ≡ true
-      → next c second csr bs b .one ≡ (next c second csr bs b .transmitter && eqb (suc (sentIn c restarted second csr bs) % 16) 0)
+  pub sixteenth : (second : Bool) (csr : ℕ) (bs : List ClockEvent) (b : ClockEvent)
+      → isSixteen (codeOf transmits csr) ≡ true
+      → next c second csr bs b .one
+      ≡ (next c second csr bs b .transmitter && eqb (suc (sentIn c restarted second csr bs) % 16) 0)
   -- "or each 1X pulse"
-  pub each : (p : Phases) (second : Bool) (csr : ℕ) (b : ClockEvent) → isSixteen (codeOf transmits csr) ≡ false → c p second csr b .one ≡ c p second csr b .transmitter
+  pub each : (p : Phases) (second : Bool) (csr : ℕ) (b : ClockEvent) → isSixteen (codeOf transmits csr) ≡ false
+      → c p second csr b .one ≡ c p second csr b .transmitter

@@ -1,4 +1,5 @@
--- The ranges of a channel's phases, which "hold every value a rule here can put there". docs/SOUND.md lists the same. Assumes nothing.
+-- The ranges of a channel's phases, which "hold every value a rule here can put there". docs/SOUND.md lists the same.
+-- Assumes nothing.
 use Prim.Native.Nat.{ℕ}
 use mathlib.Core.Path.{_≡_}
 use mathlib.Core.Bool.{Bool, true, _&&_}
@@ -13,4 +14,6 @@ phasesInRange p = leb (p .receiver .0) 4607 && (leb (p .transmitter .0) 4607 && 
 
 -- a way to clock a channel that keeps its phases in range, on all that are, reached or not
 abbrev pub KeepsPhases : Clock → Type 0
-KeepsPhases c = (p : Phases) (second : Bool) (csr : ℕ) (b : ClockEvent) → phasesInRange p ≡ true → phasesInRange (c p second csr b .phases) ≡ true
+KeepsPhases c =
+    (p : Phases) (second : Bool) (csr : ℕ) (b : ClockEvent) → phasesInRange p ≡ true
+    → phasesInRange (c p second csr b .phases) ≡ true

@@ -7,7 +7,8 @@ use dividers::period_of;
 use format::Pulses;
 use format::Ticks;
 ghost use mathlib.Core.Path.{_≡_};
-ghost use Rattle.clocks.specs.Channel.{restarted, restartedOnChange, isSixteen, tickedOf, sideOf, transmitter1x, clockedOf};
+ghost use Rattle.clocks.specs.Channel.{restarted, restartedOnChange, isSixteen, tickedOf, sideOf, transmitter1x};
+ghost use Rattle.clocks.specs.Channel.{clockedOf};
 
 // "13: the timer's toggle to high"
 const TIMER_TOGGLE: u8 = 13;

@@ -6,8 +6,8 @@ use mathlib.Core.Bool.{true, false}
 use mathlib.Core.List.{List, [], _∷_}
 use lib.Dec.{eqb}
 use Rattle.format.specs.Pick.{pick}
-use Rattle.counting.specs.declared.counting.Counted as Timers
-use Rattle.counting.specs.Counting.{modeOf, isTimer}
+use Rattle.timer_state.specs.declared.counting.Counted as Timers
+use Rattle.timer_state.specs.Counting.{modeOf, isTimer}
 use Rattle.timer.specs.Timer.{edgedBy}
 use Rattle.bytes.specs.Bytes.{hasBit}
 use Rattle.inputs.specs.Inputs.{risesOf, movedOf}
@@ -16,7 +16,7 @@ use Rattle.front.specs.Front.{frontAt}
 use Rattle.front_clocks.specs.Clocking.{countedOf}
 use Rattle.events.specs.declared.events.Event.{Event}
 use Rattle.events.specs.declared.events.Event.the-variants.{ChipReset, Read, Write, Acknowledge, Pins, Tick}
-use Rattle.duart.specs.Duart.{stepOf}
+use Rattle.chip_step.specs.Chip.{stepOf}
 use Rattle.demands.specs.Chip.{chipOf, andThen, over, linesAfter}
 use Rattle.demands.specs.Clocks.{frontThen, frontAfter}
 use Rattle.demands.specs.Registers.{opcrThen, acrAfter}

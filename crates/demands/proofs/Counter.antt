@@ -9,20 +9,20 @@ use lib.Dec.{eqb, leb}
 use borrow.Author.Tests.{eqb-true}
 use Rattle.format.specs.Pick.{pick}
 use Rattle.format.proofs.Laws.Pick.{pick-all}
-use Rattle.counting.specs.declared.counting.Timer.{Timer}
-use Rattle.counting.specs.Counting.{modeOf, isTimer}
+use Rattle.timer_state.specs.declared.counting.Timer.{Timer}
+use Rattle.timer_state.specs.Counting.{modeOf, isTimer}
 use Rattle.timer.specs.Timer.{startedOf, stoppedOf, modeChanged}
 use Rattle.timer.specs.Counts.{pulsesOf}
 use Rattle.bytes.specs.Bytes.{hasBit}
 use Rattle.outputs.specs.Outputs.{drivenOp3}
 use Rattle.front.specs.declared.front.Front.{Front}
 use Rattle.front.specs.Front.{frontAt}
-use Rattle.reads.specs.Reads.{frontData}
+use Rattle.front_reads.specs.Reads.{frontData}
 use Rattle.events.specs.declared.events.Event.{Event}
 use Rattle.events.specs.declared.events.Event.the-variants.{Read, Write}
-use Rattle.answers.specs.Answers.{timerLevel}
-use Rattle.duart.specs.Duart.{stepOf}
-use Rattle.demands.specs.Chip.{over, chipOf, andThen, shows, linesAfter, allOf}
+use Rattle.chip_answers.specs.Answers.{timerLevel}
+use Rattle.chip_step.specs.Chip.{stepOf}
+use Rattle.demands.specs.Chip.{over, chipOf, andThen, shows, linesAfter, eachOf}
 use Rattle.demands.specs.Clocks.{frontThen, frontAfter}
 use Rattle.demands.specs.Registers.{opcrThen, acrAfter}
 use Rattle.demands.specs.Counter.{preloadAfter, leavesCounter, loads, since, Loaded, countShown, Counter}
@@ -108,7 +108,7 @@ output-law levels mode es fs load s h o =
 
 -- ---- a counter that does not run ----
 
-halts-law : (levels : ℕ) (es fs : List Event) → isTimer (modeOf (acrAfter es)) ≡ false → allOf leavesCounter fs ≡ true
+halts-law : (levels : ℕ) (es fs : List Event) → isTimer (modeOf (acrAfter es)) ≡ false → eachOf leavesCounter fs ≡ true
     → countShown chip levels (es ++ Read 15 ∷ fs) ≡ countShown chip levels es
 unfolding over
 halts-law levels es fs m l =
@@ -118,7 +118,7 @@ halts-law levels es fs m l =
     (halted-over (f .timer .count) _ fs l (halted-stop f (rw (acr-told levels es) at m)) .count)
 
 changed-law : (levels mode byte : ℕ) (es fs : List Event) → loads mode es (Write 4 byte) ≡ true → isTimer mode ≡ false
-    → allOf leavesCounter fs ≡ true → countShown chip levels (es ++ Write 4 byte ∷ fs) ≡ preloadAfter es
+    → eachOf leavesCounter fs ≡ true → countShown chip levels (es ++ Write 4 byte ∷ fs) ≡ preloadAfter es
 unfolding over
 changed-law levels mode byte es fs c m l =
     let f = frontAfter levels es in
@@ -141,7 +141,7 @@ clears-law levels es =
     ready-shown levels (andThen es (Read 15))
     ∙ rw (over-then frontThen (frontAt levels) es (Read 15), front-read (frontAfter levels es) 15) (stopped-ready (frontAfter levels es .timer) _)
 
-runs-law : (levels : ℕ) (es fs : List Event) → isTimer (modeOf (acrAfter es)) ≡ true → allOf leavesCounter fs ≡ true
+runs-law : (levels : ℕ) (es fs : List Event) → isTimer (modeOf (acrAfter es)) ≡ true → eachOf leavesCounter fs ≡ true
     → (countShown chip levels (es ++ Read 15 ∷ fs) ≡ countShown chip levels (es ++ fs))
     × (eqb (over opcrThen 0 (es ++ fs) / 4 % 4) 1 ≡ true
     → hasBit (linesAfter chip levels (es ++ Read 15 ∷ fs) .op) 3 ≡ hasBit (linesAfter chip levels (es ++ fs) .op) 3)

@@ -16,18 +16,18 @@ use Rattle.format.proofs.Laws.Pick.{pick-all}
 use Rattle.frame.proofs.Laws.Levels.{length-most}
 use Rattle.request.specs.Request.{lengthAsked, levelsAsked, notModelled, spaceShort, firstRefusal, answerOf, requestOf, spaceAfter}
 use Rattle.outputs.specs.Outputs.{opcrNotModelled}
-use Rattle.side.specs.Side.{modeNotModelled}
-use Rattle.events.specs.Refusals.{commandForbidden, registerAbove15, forbiddenRead, forbiddenCommand}
+use Rattle.front_side.specs.Side.{modeNotModelled}
 use Rattle.events.specs.declared.events.Event.{Event}
 use Rattle.events.specs.declared.events.Event.the-variants.{Read, Write}
-use Rattle.front_events.specs.NotModelled.{writeNotModelled, settingNotModelled}
-use Rattle.device.specs.declared.device.Device.{Device}
-use Rattle.device.specs.Device.{isSoundOf}
-use Rattle.refusals.specs.Refusals.{firstOf}
-use Rattle.duart.specs.declared.duart.Answer.{Answer}
-use Rattle.duart.specs.Duart.{stepOf}
-use Rattle.duart.proofs.Laws.Table.{refuses-first}
-use Rattle.chip.proofs.Table.{table, no-more-rows}
+use Rattle.chip_device.specs.declared.device.Device.{Device}
+use Rattle.chip_device.specs.Device.{isSoundOf}
+use Rattle.events.specs.Command.{commandForbidden}
+use Rattle.chip_refusals.specs.Rows.{registerAbove15, forbiddenRead, forbiddenCommand, writeNotModelled, settingNotModelled}
+use Rattle.chip_refusals.specs.Refusals.{firstOf}
+use Rattle.chip_step.specs.declared.chip.Answer.{Answer}
+use Rattle.chip_step.specs.Chip.{stepOf}
+use Rattle.chip_step.proofs.Laws.Table.{refuses-first}
+use Rattle.chip_laws.proofs.Table.{table, no-more-rows}
 use Rattle.demands.specs.Chip.{Channel, registerOf}
 use Rattle.demands.specs.Chip.Channel.{A, B}
 use Rattle.demands.specs.Clocks.{sideOf}

@@ -10,31 +10,30 @@ use borrow.Author.Tests.{eqb-true}
 use Rattle.format.specs.Pick.{pick}
 use Rattle.receiver_status.specs.declared.status.Status.{Status}
 use Rattle.bytes.specs.Bytes.{hasBit}
-use Rattle.sending.specs.declared.state.Transmitter.{Transmitter}
-use Rattle.sending.specs.State.{afterBreak, sending, idlePhase, withHolding}
+use Rattle.transmitter_state.specs.declared.state.Transmitter.{Transmitter}
+use Rattle.transmitter_state.specs.State.{afterBreak, sending, idlePhase, withHolding}
 use Rattle.transmitter.specs.Commands.{writtenOf, breakEnded, droppedOf, resetOf, enabledOf}
 use Rattle.transmitter.specs.Status as Transmitters
 use Rattle.transmitter.specs.Transmitter.{afterInput}
-use Rattle.commands.specs.Commands.{transmitterEffect, transmitterEnabling, sideCommanded}
-use Rattle.side.specs.Side.{bufferWritten}
-use Rattle.shown.specs.Shown.{receivedOf, shownOf}
+use Rattle.front_commands.specs.Commands.{transmitterEffect, transmitterEnabling, sideCommanded}
+use Rattle.front_side.specs.Side.{bufferWritten}
+use Rattle.chip_shown.specs.Shown.{receivedOf, shownOf}
 use Rattle.front.specs.declared.front.Front.{Front}
 use Rattle.front.specs.Front.{frontAt}
-use Rattle.answers.specs.declared.answers.Lines.{Lines}
-use Rattle.answers.specs.Answers.{assertedOf, linesOf}
+use Rattle.chip_answers.specs.declared.answers.Lines.{Lines}
+use Rattle.chip_answers.specs.Answers.{assertedOf, linesOf}
 use Rattle.events.specs.declared.events.Event.{Event}
 use Rattle.events.specs.declared.events.Event.the-variants.{Write, Acknowledge}
-use Rattle.events.specs.Refusals.{registerAbove15, forbiddenRead, forbiddenCommand}
-use Rattle.front_events.specs.NotModelled.{settingNotModelled}
-use Rattle.device.specs.declared.device.Device.{Device}
-use Rattle.device.specs.Device.{isSoundOf, deviceLines}
-use Rattle.refusals.specs.Refusals.{deviceAsserted, acknowledgedUnasserted, firstOf}
+use Rattle.chip_device.specs.declared.device.Device.{Device}
+use Rattle.chip_device.specs.Device.{isSoundOf, deviceLines}
+use Rattle.chip_refusals.specs.Rows.{registerAbove15, forbiddenRead, forbiddenCommand, settingNotModelled, deviceAsserted, acknowledgedUnasserted}
+use Rattle.chip_refusals.specs.Refusals.{firstOf}
 use Rattle.front_events.specs.FrontEvents.{frontStepped}
 use Rattle.receiver.specs.Receiver.{fedOf}
-use Rattle.duart.specs.declared.duart.Answer.{Answer}
-use Rattle.duart.specs.Duart.{takenOf, stepOf}
-use Rattle.duart.proofs.Laws.Table.{accepts, refuses-first}
-use Rattle.chip.specs.Reset.{resetAt}
+use Rattle.chip_step.specs.declared.chip.Answer.{Answer}
+use Rattle.chip_step.specs.Chip.{takenOf, stepOf}
+use Rattle.chip_step.proofs.Laws.Table.{accepts, refuses-first}
+use Rattle.chip_laws.specs.Reset.{resetAt}
 use Rattle.demands.specs.Chip.{chipOf, Channel, ofChannel, registerOf, andThen, shows, statusBit, linesAfter}
 use Rattle.demands.specs.Chip.Channel.{A, B}
 use Rattle.demands.specs.Told.{Programmed, programmed}

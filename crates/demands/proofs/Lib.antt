@@ -1,4 +1,5 @@
 -- The three demands and the eleven cases, proved, and the laws that they go by.
+pub mod Computing
 pub mod Laws
 pub mod Reached
 pub mod Demand1

@@ -7,22 +7,21 @@ use mathlib.Core.List.{List}
 use borrow.Author.Tests.{eqb-true, eqb-false}
 use lib.Dec.{eqb}
 use Rattle.format.specs.Pick.{pick}
-use Rattle.side.specs.Side.{modeNotModelled}
+use Rattle.front_side.specs.Side.{modeNotModelled}
 use Rattle.events.specs.declared.events.Event.{Event}
 use Rattle.events.specs.declared.events.Event.the-variants.{ChipReset, Read, Write, Acknowledge, Pins, Tick}
-use Rattle.events.specs.Refusals.{registerAbove15, forbiddenRead, forbiddenCommand}
-use Rattle.front_events.specs.NotModelled.{writeNotModelled}
-use Rattle.front_events.specs.NotModelled as Rows
-use Rattle.device.specs.declared.device.Device.{Device}
-use Rattle.device.specs.Device.{isSoundOf}
-use Rattle.refusals.specs.Refusals.{acknowledgedUnasserted, firstOf}
-use Rattle.duart.specs.declared.duart.Answer.{Answer}
-use Rattle.duart.specs.Duart.{stepOf}
-use Rattle.duart.proofs.Laws.Table.{accepts, refuses-first}
-use Rattle.chip.proofs.Sound.{keeps-sound}
+use Rattle.chip_refusals.specs.Rows as Rows
+use Rattle.chip_device.specs.declared.device.Device.{Device}
+use Rattle.chip_device.specs.Device.{isSoundOf}
+use Rattle.chip_refusals.specs.Rows.{registerAbove15, forbiddenRead, forbiddenCommand, writeNotModelled, acknowledgedUnasserted}
+use Rattle.chip_refusals.specs.Refusals.{firstOf}
+use Rattle.chip_step.specs.declared.chip.Answer.{Answer}
+use Rattle.chip_step.specs.Chip.{stepOf}
+use Rattle.chip_step.proofs.Laws.Table.{accepts, refuses-first}
+use Rattle.chip_laws.proofs.Sound.{keeps-sound}
 use Rattle.demands.specs.Chip.{chipOf}
 use Rattle.demands.specs.Chip.Channel.{A, B}
-use Rattle.demands.specs.Numbers.{settingNotModelled, numberAfter, Numbers}
+use Rattle.demands.specs.Numbers.{settingRefused, numberAfter, Numbers}
 use Rattle.demands.proofs.Laws.Run.{runAt, run-front, run-sound}
 use Rattle.demands.proofs.Laws.Told.{told}
 use Rattle.demands.proofs.Laws.Looks.{chip}
@@ -39,7 +38,7 @@ first-number d e s = go (eqb (firstOf d e 0) 0) refl
     go false z = ap (λ (x : Answer). x .number) (refuses-first d e (eqb-false _ 0 z))
 
 -- the pointers are where the events tell
-setting-told : (levels : ℕ) (es : List Event) (n byte : ℕ) → writeNotModelled (runAt levels es .front) n byte ≡ settingNotModelled es n byte
+setting-told : (levels : ℕ) (es : List Event) (n byte : ℕ) → writeNotModelled (runAt levels es .front) n byte ≡ settingRefused es n byte
 unfolding writeNotModelled modeNotModelled
 setting-told levels es n byte = rw (run-front levels es, told A levels es, told B levels es)
 

@@ -15,14 +15,14 @@ use Rattle.format.proofs.Laws.Pick.{pick-all}
 use Rattle.dividers.specs.declared.divider.Sixteenth.{Sixteenth}
 use Rattle.dividers.proofs.Laws.Divider.{pulsesOf, sixteenth-at}
 use Rattle.clocks.specs.declared.channel.ClockEvent.{ClockEvent}
-use Rattle.clocks.specs.declared.channel.Clocked.{Clocked}
 use Rattle.clocks.specs.declared.channel.Phases.{Phases}
 use Rattle.clocks.specs.Channel.{restarted, isSixteen, transmitter1x, clockedOf}
 use Rattle.clocks.specs.Pulses.{codeOf}
 use Rattle.clocks.specs.Pulses.Side.{transmits}
 use Rattle.clocks.proofs.Pulses.{clocks}
-use Rattle.side.specs.declared.side.Side as Sides
-use Rattle.side.specs.Side.{freshSide}
+use Rattle.clocks.proofs.Pulses.{bitIn}
+use Rattle.front_side.specs.declared.side.Side as Sides
+use Rattle.front_side.specs.Side.{freshSide}
 use Rattle.front.specs.declared.front.Front.{Front}
 use Rattle.front.specs.Front.{frontAt}
 use Rattle.events.specs.declared.events.Event.{Event}
@@ -40,9 +40,6 @@ use Rattle.demands.proofs.Laws.Restarts.{SameClocks, acr-restarts, Coun
 use Rattle.demands.proofs.Pulses.{code-told}
 
 -- ---- one event of the clocks ----
-
-abbrev bitIn : Clocked → Sixteenth
-bitIn c = record { phase = c .phases .sixteenths; pulse = c .one }
 
 bit-at : (phase : Pulses) (code k : ℕ) (pulse : Bool) → isSixteen code ≡ true → phase ≡ pulsesOf (k % 16)
     → transmitter1x phase code pulse ≡ record { phase = pulsesOf ((k + bit pulse) % 16); pulse = pulse && eqb (suc k % 16) 0 }

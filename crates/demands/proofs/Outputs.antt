@@ -8,10 +8,10 @@ use lib.Dec.{eqb}
 use Rattle.format.specs.Pick.{pick}
 use Rattle.bytes.specs.Bytes.{hasBit}
 use Rattle.outputs.specs.Outputs.{drivenBy, drivenOp3}
-use Rattle.counting.specs.Counting.{modeOf, isTimer}
-use Rattle.answers.specs.Answers.{timerLevel}
+use Rattle.timer_state.specs.Counting.{modeOf, isTimer}
+use Rattle.chip_answers.specs.Answers.{timerLevel}
 use Rattle.events.specs.declared.events.Event.{Event}
-use Rattle.duart.specs.Duart.{stepOf}
+use Rattle.chip_step.specs.Chip.{stepOf}
 use Rattle.demands.specs.Chip.{chipOf, over, shows, linesAfter}
 use Rattle.demands.specs.Registers.{outputsThen, opcrThen, acrAfter, sourceOf, Outputs}
 use Rattle.demands.proofs.Laws.Told.{acr-told}

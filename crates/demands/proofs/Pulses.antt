@@ -12,10 +12,10 @@ use Rattle.format.specs.Pick.{pick}
 use Rattle.format.proofs.Laws.Pick.{pick-all}
 use Rattle.dividers.specs.Rates.{periodOf}
 use Rattle.clocks.specs.Pulses.{Side, codeOf}
-use Rattle.counting.specs.declared.counting.Counted.{Counted}
-use Rattle.counting.specs.declared.counting.Timer.{Timer}
-use Rattle.counting.specs.Counting.{modeOf, isTimer, tickPulses, edgePulses, transmitterPulses, countedDown, timerPulsed}
-use Rattle.counting.specs.Counting as Counting
+use Rattle.timer_state.specs.declared.counting.Counted.{Counted}
+use Rattle.timer_state.specs.declared.counting.Timer.{Timer}
+use Rattle.timer_state.specs.Counting.{modeOf, isTimer, tickPulses, edgePulses, transmitterPulses, countedDown, timerPulsed}
+use Rattle.timer_state.specs.Counting as Counting
 use Rattle.timer.specs.Timer.{tickedBy, edgedBy, transmittedBy}
 use Rattle.timer.specs.Counts.{pulsesOf}
 use Rattle.timer.proofs.Counts.{toggles}
@@ -26,13 +26,13 @@ use Rattle.front.specs.Front.{frontAt}
 use Rattle.front_clocks.specs.Clocking.{countedOf}
 use Rattle.events.specs.declared.events.Event.{Event}
 use Rattle.events.specs.declared.events.Event.the-variants.{ChipReset, Read, Write, Acknowledge, Pins, Tick}
-use Rattle.demands.specs.Chip.{Channel, andThen, allOf}
+use Rattle.demands.specs.Chip.{Channel, andThen, eachOf}
 use Rattle.demands.specs.Told.{Programmed, levelsAfter}
 use Rattle.demands.specs.Registers.{acrAfter}
 use Rattle.demands.specs.Counter.{preloadAfter, Elapsed, elapsedThen, pulsesAfter, leavesCounter, since, Loaded}
 use Rattle.demands.specs.Clocks.{frontThen, frontAfter, sideOf, pulsedBy, pulsedAfter}
 use Rattle.demands.specs.Counted.{timerAfter}
-use Rattle.demands.specs.Pulses.{ticksAfter, isTick, clocks, edgeBy, codeAfter, Pulses}
+use Rattle.demands.specs.Pulses.{ticksAfter, tickEvent, clocks, edgeBy, codeAfter, Pulses}
 use Rattle.demands.proofs.Laws.Fronts.{frontMoved, frontNext, front-next}
 use Rattle.demands.proofs.Laws.Told.{over-then, levels-told, acr-told, told}
 use Rattle.demands.proofs.Laws.Restarts.{fixed-pulse}
@@ -49,7 +49,7 @@ code-told side ch levels es = ap (λ (p : Programmed). codeOf side (p .csr)) (to
 
 fixed : (side : Side) (ch : Channel) (levels : ℕ) (es : List Event) (e : Event) → codeAfter side ch es < 13
     → pulsedAfter side ch levels es e
-    ≡ (isTick e && eqb (suc (ticksAfter ch es) % periodOf (eqb (acrAfter es / 128) 1) (codeAfter side ch es) .0) 0)
+    ≡ (tickEvent e && eqb (suc (ticksAfter ch es) % periodOf (eqb (acrAfter es / 128) 1) (codeAfter side ch es) .0) 0)
 fixed side ch levels es e h =
     rw (acr-told levels es, code-told side ch levels es) (fixed-pulse side ch levels es e (rw (code-told side ch levels es) at h))
 
@@ -234,7 +234,7 @@ event-toggles k preload x f e h l p s = go e
     go Tick = rw one-more ticked
 
 -- the last of some events, and those before it
-left-before : (fs : List Event) (e : Event) → allOf leavesCounter (andThen fs e) ≡ true → allOf leavesCounter fs ≡ true
+left-before : (fs : List Event) (e : Event) → eachOf leavesCounter (andThen fs e) ≡ true → eachOf leavesCounter fs ≡ true
 left-before [] e l = refl
 left-before (g ∷ fs) e l =
     let both = and-eq-true-iff (leavesCounter g) _ .0 l in

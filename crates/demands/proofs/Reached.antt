@@ -9,15 +9,15 @@ use borrow.Author.Tests.{eqb-false}
 use Rattle.format.specs.Pick.{pick}
 use Rattle.events.specs.declared.events.Event.{Event}
 use Rattle.events.specs.declared.events.Event.the-variants.{ChipReset}
-use Rattle.device.specs.declared.device.Device.{Device}
-use Rattle.device.specs.Device.{freshDevice}
-use Rattle.duart.specs.Duart.{stepOf}
-use Rattle.chip.specs.Sound.{after}
-use Rattle.chip.specs.Lists.{seenOf, allSeen}
-use Rattle.chip.specs.Reset.{resetAt}
-use Rattle.chip.proofs.Reset.{resets}
-use Rattle.chip.proofs.Sound.{stays-sound}
-use Rattle.chip.proofs.Table.{table}
+use Rattle.chip_device.specs.declared.device.Device.{Device}
+use Rattle.chip_device.specs.Device.{freshDevice}
+use Rattle.chip_step.specs.Chip.{stepOf}
+use Rattle.chip_laws.specs.Sound.{after}
+use Rattle.chip_laws.specs.Lists.{seenOf, allSeen}
+use Rattle.chip_laws.specs.Reset.{resetAt}
+use Rattle.chip_laws.proofs.Reset.{resets}
+use Rattle.chip_laws.proofs.Sound.{stays-sound}
+use Rattle.chip_laws.proofs.Table.{table}
 use Rattle.demands.specs.Chip.{chipOf}
 use Rattle.demands.specs.Reached.{accepted, acceptedSeen, Reached, Unaltered}
 use Rattle.demands.proofs.Laws.Run.{run-append, step-sound, runAt}

@@ -13,26 +13,26 @@ use Rattle.format.specs.Format.{stopCodeOf}
 use Rattle.format.specs.Stop.{stopLengthOf}
 use Rattle.format.proofs.Laws.Pick.{pick-all}
 use Rattle.frame.specs.Levels.{frame}
-use Rattle.assembly.specs.declared.state.Setting.{Setting}
+use Rattle.feed.specs.declared.feed.Setting.{Setting}
 use Rattle.sampler.specs.Lines.{Line, at16}
 use Rattle.sampler.specs.Lines.Line.{pulse, enable, disable}
 use Rattle.queue.specs.Queue.{heldOf}
 use Rattle.queue.proofs.Laws.Queue.{is-empty-held}
-use Rattle.arrivals.specs.declared.arrivals.Receiver.{Receiver}
-use Rattle.receiver.specs.declared.receiver.Feed.{Feed}
-use Rattle.receiver.specs.declared.receiver.Feed.the-variants as Feeds
+use Rattle.receiver_state.specs.declared.arrivals.Receiver.{Receiver}
+use Rattle.feed.specs.declared.feed.Feed.{Feed}
+use Rattle.feed.specs.declared.feed.Feed.the-variants as Feeds
 use Rattle.receiver.specs.Receiver.{fedOf}
 use Rattle.receiver.specs.Delivery as Receivers
 use Rattle.receiver.specs.Delivery.{linesOver}
 use Rattle.receiver.specs.ReadBack.{pulses, sent}
 use Rattle.receiver.proofs.ReadBack.{sent-frame, read-back-frame}
-use Rattle.events.specs.Refusals.{commandForbidden}
+use Rattle.events.specs.Command.{commandForbidden}
 use Rattle.front.specs.declared.front.Front.{Front}
 use Rattle.events.specs.declared.events.Event.{Event}
 use Rattle.events.specs.declared.events.Event.the-variants.{ChipReset, Read, Write, Acknowledge, Pins, Tick}
-use Rattle.duart.specs.Duart.{stepOf}
-use Rattle.chip.specs.Reset.{resetAt}
-use Rattle.demands.specs.Chip.{Channel, chipOf, registerOf, allOf}
+use Rattle.chip_step.specs.Chip.{stepOf}
+use Rattle.chip_laws.specs.Reset.{resetAt}
+use Rattle.demands.specs.Chip.{Channel, chipOf, registerOf, eachOf}
 use Rattle.demands.specs.Told.{programmed}
 use Rattle.demands.specs.Clocks.{frontThen, frontAfter}
 use Rattle.demands.specs.Delivery.{commands, linesFrom, ledger}
@@ -81,7 +81,7 @@ pulse-handed ch f Acknowledge h = refl
 pulse-handed ch f (Pins x) h = pick-all (λ (y : Feed). pulseOrNothing y ≡ true) _ _ _ refl refl
 pulse-handed ch f Tick h = pick-all (λ (y : Feed). pulseOrNothing y ≡ true) _ _ _ refl refl
 
-pulses-handed : (ch : Channel) (f : Front) (es : List Event) → allOf (undisturbed ch) es ≡ true → onlyPulses (feedsFrom ch f es) ≡ true
+pulses-handed : (ch : Channel) (f : Front) (es : List Event) → eachOf (undisturbed ch) es ≡ true → onlyPulses (feedsFrom ch f es) ≡ true
 unfolding feedsFrom
 pulses-handed ch f [] h = refl
 pulses-handed ch f (e ∷ es) h =
@@ -117,7 +117,7 @@ pulses-lines f [] = refl
 pulses-lines f (level ∷ ls) = ap (λ (xs : List Line). pulse level f ∷ xs) (pulses-lines f ls)
 
 -- so it is as if it had been handed these pulses
-receiver-found : (levels : ℕ) (ch : Channel) (es gs : List Event) (f : Setting) (ls : List Bool) → allOf (undisturbed ch) gs ≡ true
+receiver-found : (levels : ℕ) (ch : Channel) (es gs : List Event) (f : Setting) (ls : List Bool) → eachOf (undisturbed ch) gs ≡ true
     → linesFrom ch levels es gs ≡ carried f ls
     → receiverAt ch (runAt levels (es ++ gs)) ≡ Receivers.after fedOf (receiverAt ch (runAt levels es)) (pulses f ls)
 receiver-found levels ch es gs f ls h e =
@@ -140,7 +140,7 @@ nothing-held levels ch es h =
     not-false true e = refl
     not-false false e = absurd (true≢false e)
 
-frame-read : (levels : ℕ) (ch : Channel) (es gs : List Event) (code x : ℕ) → Listens (chipOf stepOf) levels ch es → allOf (undisturbed ch) gs ≡ true
+frame-read : (levels : ℕ) (ch : Channel) (es gs : List Event) (code x : ℕ) → Listens (chipOf stepOf) levels ch es → eachOf (undisturbed ch) gs ≡ true
     → linesFrom ch levels es gs ≡ carried (at16 (formatAfter ch es)) (frame true (formatAfter ch es) code x)
     → ReadBack (chipOf stepOf) levels ch es gs x
 frame-read levels ch es gs code x h k e =
@@ -162,9 +162,9 @@ frame-read levels ch es gs code x h k e =
 -- ---- what a sender sent ----
 
 sent-read : (there here : ℕ) (sender receiver : Channel) (es fs before gs : List Event) (e : Event) → Starts there sender es e
-    → allOf (keepsSending sender) fs ≡ true → pulsesFrom there sender es (e ∷ fs) ≡ length (startedFrame there sender es e)
+    → eachOf (keepsSending sender) fs ≡ true → pulsesFrom there sender es (e ∷ fs) ≡ length (startedFrame there sender es e)
     → standing there sender es e .sixteen ≡ true → formatAfter sender es ≡ formatAfter receiver before
-    → Listens (chipOf stepOf) here receiver before → allOf (undisturbed receiver) gs ≡ true
+    → Listens (chipOf stepOf) here receiver before → eachOf (undisturbed receiver) gs ≡ true
     → linesFrom receiver here before gs ≡ carried (at16 (formatAfter receiver before)) (sentFrom (chipOf stepOf) there sender es (e ∷ fs))
     → ReadBack (chipOf stepOf) here receiver before gs (senderAfter there sender es .holding)
 sent-read there here sender receiver es fs before gs e h k all sixteen format l u lines =

@@ -12,24 +12,23 @@ use Rattle.format.specs.Pick.{pick}
 use Rattle.character.specs.Character.{noMarks}
 use Rattle.queue.specs.Queue.{isEmptyOf}
 use Rattle.queue.proofs.Laws.Queue.{at-least-held}
-use Rattle.arrivals.specs.declared.arrivals.Receiver.{Receiver}
+use Rattle.receiver_state.specs.declared.arrivals.Receiver.{Receiver}
 use Rattle.receiver_status.specs.Status.{shownMarks}
 use Rattle.receiver.specs.Delivery.{oldestKnown}
 use Rattle.receiver.specs.Receiver.{readOf, fedOf}
 use Rattle.bytes.specs.Bytes.{hasBit}
-use Rattle.shown.specs.Shown.{blockErrors}
-use Rattle.reads.specs.Reads.{sideRead, registerRead}
+use Rattle.chip_shown.specs.Shown.{blockErrors}
+use Rattle.front_reads.specs.Reads.{sideRead, registerRead}
 use Rattle.events.specs.declared.events.Event.{Event}
 use Rattle.events.specs.declared.events.Event.the-variants.{Read}
-use Rattle.events.specs.Refusals.{registerAbove15, forbiddenRead, forbiddenCommand}
 use Rattle.front_events.specs.FrontEvents.{frontStepped}
-use Rattle.front_events.specs.NotModelled.{settingNotModelled}
-use Rattle.device.specs.declared.device.Device.{Device}
-use Rattle.device.specs.Device.{isSoundOf}
-use Rattle.duart.specs.Duart.{stepOf}
-use Rattle.chip.specs.Alone.{handedAfter}
-use Rattle.chip.proofs.Alone.{alone-state}
-use Rattle.chip.proofs.Sound.{never-seven}
+use Rattle.chip_refusals.specs.Rows.{registerAbove15, forbiddenRead, forbiddenCommand, settingNotModelled}
+use Rattle.chip_device.specs.declared.device.Device.{Device}
+use Rattle.chip_device.specs.Device.{isSoundOf}
+use Rattle.chip_step.specs.Chip.{stepOf}
+use Rattle.chip_laws.specs.Alone.{handedAfter}
+use Rattle.chip_laws.proofs.Alone.{alone-state}
+use Rattle.chip_laws.proofs.Sound.{never-seven}
 use Rattle.demands.specs.Chip.{Channel, ofChannel, registerOf, chipOf, shows, statusBit}
 use Rattle.demands.specs.Chip.Channel.{A, B}
 use Rattle.demands.specs.Told.{programmed}

@@ -9,21 +9,21 @@ use lib.Dec.{eqb}
 use Rattle.format.specs.Pick.{pick}
 use Rattle.inputs.specs.declared.inputs.Inputs.{Inputs}
 use Rattle.inputs.specs.Inputs.{changeRegister}
-use Rattle.side.specs.Side.{modeRegister}
+use Rattle.front_side.specs.Side.{modeRegister}
 use Rattle.front.specs.declared.front.Front.{Front}
-use Rattle.reads.specs.Reads.{frontData}
+use Rattle.front_reads.specs.Reads.{frontData}
 use Rattle.events.specs.declared.events.Event.{Event}
 use Rattle.events.specs.declared.events.Event.the-variants.{ChipReset, Read, Write, Acknowledge, Pins, Tick}
-use Rattle.answers.specs.Answers.{eventData}
-use Rattle.device.specs.declared.device.Device.{Device}
-use Rattle.duart.specs.declared.duart.Answer.{Answer}
-use Rattle.duart.specs.Duart.{takenOf, stepOf}
-use Rattle.chip.specs.Sound.{after}
-use Rattle.chip.specs.Reset.{resetAt}
-use Rattle.chip.specs.Lists.{seenOf}
-use Rattle.chip.proofs.Table.{table}
-use Rattle.chip.proofs.Quiet.{quiet}
-use Rattle.chip.proofs.Reset.{resets}
+use Rattle.chip_answers.specs.Answers.{eventData}
+use Rattle.chip_device.specs.declared.device.Device.{Device}
+use Rattle.chip_step.specs.declared.chip.Answer.{Answer}
+use Rattle.chip_step.specs.Chip.{takenOf, stepOf}
+use Rattle.chip_laws.specs.Sound.{after}
+use Rattle.chip_laws.specs.Reset.{resetAt}
+use Rattle.chip_laws.specs.Lists.{seenOf}
+use Rattle.chip_laws.proofs.Table.{table}
+use Rattle.chip_laws.proofs.Quiet.{quiet}
+use Rattle.chip_laws.proofs.Reset.{resets}
 use Rattle.demands.specs.Chip.{chipOf, Channel, registerOf, shows}
 use Rattle.demands.specs.Chip.Channel.{A, B}
 use Rattle.demands.specs.Told.{levelsAfter, programmed}

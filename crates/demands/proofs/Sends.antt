@@ -8,9 +8,9 @@ use lib.Dec.{eqb}
 use lib.ListN.{length, getD, take}
 use Rattle.format.specs.Pick.{pick}
 use Rattle.format.proofs.Laws.Pick.{pick-yes, pick-no, pick-all}
-use Rattle.sending.specs.declared.sending.Standing.{Standing}
-use Rattle.sending.specs.declared.state.Transmitter.{Transmitter}
-use Rattle.sending.specs.Sending.{clearToSend, canStart, begunOf, sentOnOf, heldHigh, pulsedOf}
+use Rattle.transmitter_state.specs.declared.sending.Standing.{Standing}
+use Rattle.transmitter_state.specs.declared.state.Transmitter.{Transmitter}
+use Rattle.transmitter_state.specs.Sending.{clearToSend, canStart, begunOf, sentOnOf, heldHigh, pulsedOf}
 use Rattle.transmitter.specs.declared.transmitter.Input.{Input}
 use Rattle.transmitter.specs.declared.transmitter.Input.the-variants.{Pulse}
 use Rattle.transmitter.specs.Status.{shifterEmpty}
@@ -21,8 +21,8 @@ use Rattle.clocks.specs.Pulses.Side.{transmits}
 use Rattle.bytes.specs.Bytes.{hasBit}
 use Rattle.events.specs.declared.events.Event.{Event}
 use Rattle.events.specs.declared.events.Event.the-variants.{ChipReset, Read, Write, Acknowledge, Pins, Tick}
-use Rattle.duart.specs.Duart.{stepOf}
-use Rattle.demands.specs.Chip.{Channel, ofChannel, chipOf, andThen, statusBit, allOf}
+use Rattle.chip_step.specs.Chip.{stepOf}
+use Rattle.demands.specs.Chip.{Channel, ofChannel, chipOf, andThen, statusBit, eachOf}
 use Rattle.demands.specs.Told.{levelsAfter, unprogrammed, programmedThen, programmed}
 use Rattle.demands.specs.Clocks.{pulsedBy, pulsedAfter}
 use Rattle.demands.specs.Pulses.{clocks}
@@ -201,7 +201,7 @@ pulses-started : (levels : ℕ) (ch : Channel) (es fs : List Event) (e : Event) 
     → pulsesFrom levels ch es (e ∷ fs) ≡ pulsesIn (Pulse (standing levels ch es e) ∷ restOf levels ch es e fs)
 pulses-started levels ch es fs e h = pulses-from levels ch es (e ∷ fs) ∙ ap pulsesIn (inputs-started levels ch es fs e h)
 
-level : (levels : ℕ) (ch : Channel) (es fs : List Event) (e : Event) → Starts levels ch es e → allOf (keepsSending ch) fs ≡ true
+level : (levels : ℕ) (ch : Channel) (es fs : List Event) (e : Event) → Starts levels ch es e → eachOf (keepsSending ch) fs ≡ true
     → pulsesFrom levels ch (andThen es e) fs < length (startedFrame levels ch es e)
     → txdAfter chip levels ch (andThen es e ++ fs) ≡ getD (startedFrame levels ch es e) (pulsesFrom levels ch (andThen es e) fs) true
 level levels ch es fs e h k l =
@@ -211,7 +211,7 @@ level levels ch es fs e h k l =
     (Frames.sends .level (senderAfter levels ch es) (standing levels ch es e) (restOf levels ch es e fs) (h .startable)
     (keeps-from levels ch (andThen es e) fs k) (rw count at l))
 
-sent-line : (levels : ℕ) (ch : Channel) (es fs : List Event) (e : Event) → Starts levels ch es e → allOf (keepsSending ch) fs ≡ true
+sent-line : (levels : ℕ) (ch : Channel) (es fs : List Event) (e : Event) → Starts levels ch es e → eachOf (keepsSending ch) fs ≡ true
     → pulsesFrom levels ch es (e ∷ fs) ≤ length (startedFrame levels ch es e)
     → sentFrom chip levels ch es (e ∷ fs) ≡ take (pulsesFrom levels ch es (e ∷ fs)) (startedFrame levels ch es e)
 sent-line levels ch es fs e h k l =
@@ -223,7 +223,7 @@ sent-line levels ch es fs e h k l =
 
 -- ---- the shifter ----
 
-busy : (levels : ℕ) (ch : Channel) (es fs : List Event) (e : Event) → Starts levels ch es e → allOf (keepsSending ch) fs ≡ true
+busy : (levels : ℕ) (ch : Channel) (es fs : List Event) (e : Event) → Starts levels ch es e → eachOf (keepsSending ch) fs ≡ true
     → pulsesFrom levels ch (andThen es e) fs < length (startedFrame levels ch es e)
     → statusBit chip levels ch (andThen es e ++ fs) 3 ≡ false
 busy levels ch es fs e h k l =
@@ -233,7 +233,7 @@ busy levels ch es fs e h k l =
     (keeps-from levels ch (andThen es e) fs k) (rw (pulses-from levels ch (andThen es e) fs) at l)) in
     empty-shown levels ch (andThen es e ++ fs) ∙ rw (held, and-false)
 
-over : (levels : ℕ) (ch : Channel) (es fs : List Event) (e next : Event) → Starts levels ch es e → allOf (keepsSending ch) fs ≡ true
+over : (levels : ℕ) (ch : Channel) (es fs : List Event) (e next : Event) → Starts levels ch es e → eachOf (keepsSending ch) fs ≡ true
     → pulsesFrom levels ch es (e ∷ fs) ≡ length (startedFrame levels ch es e) → pulsedAfter transmits ch levels (andThen es e ++ fs) next ≡ true
     → statusBit chip levels ch (andThen es e ++ fs) 2 ≡ true → statusBit chip levels ch (andThen (andThen es e ++ fs) next) 3 ≡ true
 unfolding pulsesIn pick

@@ -5,26 +5,25 @@ use mathlib.Core.Path.{_≡_, refl, sym, ap, _∙_}
 use mathlib.Core.Bool.{Bool, true, false, not, _&&_}
 use mathlib.Core.List.{List, _∷_, _++_}
 use Rattle.format.specs.Pick.{pick}
-use Rattle.sending.specs.declared.state.Transmitter.{Transmitter}
+use Rattle.transmitter_state.specs.declared.state.Transmitter.{Transmitter}
 use Rattle.transmitter.specs.Commands.{writtenOf}
 use Rattle.transmitter.specs.Status.{shifterEmpty}
 use Rattle.transmitter.specs.Transmitter.{afterInput}
 use Rattle.receiver.specs.Receiver.{fedOf}
-use Rattle.side.specs.Side.{withTransmitter, bufferWritten}
+use Rattle.front_side.specs.Side.{withTransmitter, bufferWritten}
 use Rattle.front.specs.Front.{withSides}
-use Rattle.writes.specs.Writes.{sideWritten, registerWritten}
+use Rattle.front_writes.specs.Writes.{sideWritten, registerWritten}
 use Rattle.events.specs.declared.events.Event.{Event}
 use Rattle.events.specs.declared.events.Event.the-variants.{Write}
-use Rattle.events.specs.Refusals.{registerAbove15, forbiddenRead, forbiddenCommand}
 use Rattle.front_events.specs.FrontEvents.{frontStepped}
-use Rattle.front_events.specs.NotModelled.{writeNotModelled, settingNotModelled}
-use Rattle.device.specs.declared.device.Device.{Device}
-use Rattle.device.specs.Device.{isSoundOf}
-use Rattle.duart.specs.Duart.{stepOf}
-use Rattle.chip.specs.Alone.{handedAfter}
-use Rattle.chip.specs.Sound.{after}
-use Rattle.chip.proofs.Alone.{alone-state}
-use Rattle.chip.proofs.Sound.{never-seven}
+use Rattle.chip_refusals.specs.Rows.{registerAbove15, forbiddenRead, forbiddenCommand, writeNotModelled, settingNotModelled}
+use Rattle.chip_device.specs.declared.device.Device.{Device}
+use Rattle.chip_device.specs.Device.{isSoundOf}
+use Rattle.chip_step.specs.Chip.{stepOf}
+use Rattle.chip_laws.specs.Alone.{handedAfter}
+use Rattle.chip_laws.specs.Sound.{after}
+use Rattle.chip_laws.proofs.Alone.{alone-state}
+use Rattle.chip_laws.proofs.Sound.{never-seven}
 use Rattle.demands.specs.Chip.{Channel, chipOf, registerOf, statusBit}
 use Rattle.demands.specs.Chip.Channel.{A, B}
 use Rattle.demands.specs.Told.{Programmed, programmed}

@@ -1,5 +1,6 @@
--- Document 01's eleven cases: "One table, one statement, checked by the definitions": a row is a set-up, the events, what public answer to look at, and what
--- it must be. Cases 3 to 6 look at what the frame request answers and writes. Assumes nothing.
+-- Document 01's eleven cases: "One table, one statement, checked by the definitions": a row is a set-up, the events,
+-- what public answer to look at, and what it must be. Cases 3 to 6 look at what the frame request answers and writes.
+-- Assumes nothing.
 use Prim.Native.Nat.{ℕ, zero, suc, _+_, _*_}
 use mathlib.Core.Path.{_≡_}
 use mathlib.Core.Bool.{Bool, true, false, _&&_}
@@ -12,7 +13,7 @@ use Rattle.format.specs.Format.{formatOf}
 use Rattle.frame.specs.Levels.{frame}
 use Rattle.events.specs.declared.events.Event.{Event}
 use Rattle.events.specs.declared.events.Event.the-variants.{Read, Write, Pins, Tick}
-use Rattle.chip.specs.Lists.{Seen}
+use Rattle.chip_laws.specs.Lists.{Seen}
 use Rattle.demands.specs.Chip.{Chip}
 use Rattle.demands.specs.Demand1.{Request}
 
@@ -28,8 +29,8 @@ seen txda x = bit (x .lines .txda)
 seen txdb x = bit (x .lines .txdb)
 seen op x = x .lines .op
 
--- of a frame request: the pulses it answers, how many of the levels it wrote are high, the level in the middle of bit i, and the number that w bits
--- after the start bit make, the lowest first
+-- of a frame request: the pulses it answers, how many of the levels it wrote are high, the level in the middle of bit
+-- i, and the number that w bits after the start bit make, the lowest first
 pub data Asked : Type 0 where
   pulses highs : Asked
   middle value : ℕ → Asked
@@ -59,7 +60,8 @@ asked (value w) r mr1 mr2 x = valueFrom w 1 (r mr1 mr2 x lent .1)
 -- ---- rows ----
 
 pub data Row : Type 0 where
-  -- the fresh device ("the state after a chip reset with all pins high"), these events, then this one, which is accepted
+  -- the fresh device ("the state after a chip reset with all pins high"), these events, then this one, which is
+  -- accepted
   shows : List Event → Event → Look → ℕ → Row
   -- MR1, MR2 and a byte, a request that is accepted
   asks : ℕ → ℕ → ℕ → Asked → ℕ → Row
@@ -70,7 +72,8 @@ right look x s = eqb (s .number) 0 && eqb (seen look s) x
 
 unfoldable pub holds : Chip → Request → Row → Bool
 holds c r (shows es e look x) = right look x (c 255 es e)
-holds c r (asks mr1 mr2 character look x) = eqb (r mr1 mr2 character lent .0 .number) 0 && eqb (asked look r mr1 mr2 character) x
+holds c r (asks mr1 mr2 character look x) =
+    eqb (r mr1 mr2 character lent .0 .number) 0 && eqb (asked look r mr1 mr2 character) x
 
 unfoldable pub allHold : Chip → Request → List Row → Bool
 allHold c r [] = true
@@ -91,7 +94,8 @@ abbrev pub arrives : Bool → ℕ → List Event
 arrives sixteen x = heard (frame sixteen (formatOf 19) 7 x)
 
 abbrev pub fourArrive : Bool → List Event
-fourArrive sixteen = listening sixteen ++ arrives sixteen 1 ++ arrives sixteen 2 ++ arrives sixteen 3 ++ arrives sixteen 4
+fourArrive sixteen =
+    listening sixteen ++ arrives sixteen 1 ++ arrives sixteen 2 ++ arrives sixteen 3 ++ arrives sixteen 4
 
 abbrev pub fiveArrive : Bool → List Event
 fiveArrive sixteen = fourArrive sixteen ++ arrives sixteen 5
@@ -119,18 +123,23 @@ timing = Write 4 96 ∷ Write 6 0 ∷ Write 7 2 ∷ Read 14 ∷ []
 
 -- "Fresh: SRA 0, IVR 15, OP 255, TxD high."
 abbrev pub case1 : List Row
-case1 = shows [] (Read 1) byte 0 ∷ shows [] (Read 12) byte 15 ∷ shows [] (Read 1) op 255 ∷ shows [] (Read 1) txda 1 ∷ shows [] (Read 1) txdb 1 ∷ []
+case1 =
+    shows [] (Read 1) byte 0 ∷ shows [] (Read 12) byte 15 ∷ shows [] (Read 1) op 255 ∷ shows [] (Read 1) txda 1
+    ∷ shows [] (Read 1) txdb 1 ∷ []
 
 -- "Register 0: write 19, 7; read 7; command 16; read 19, 7, 7."
 abbrev pub case2 : List Row
 case2 =
     let es : List Event = Write 0 19 ∷ Write 0 7 ∷ [] in
     let fs : List Event = es ++ Read 0 ∷ Write 2 16 ∷ [] in
-    shows es (Read 0) byte 7 ∷ shows fs (Read 0) byte 19 ∷ shows (fs ++ Read 0 ∷ []) (Read 0) byte 7 ∷ shows (fs ++ Read 0 ∷ Read 0 ∷ []) (Read 0) byte 7 ∷ []
+    shows es (Read 0) byte 7 ∷ shows fs (Read 0) byte 19 ∷ shows (fs ++ Read 0 ∷ []) (Read 0) byte 7
+    ∷ shows (fs ++ Read 0 ∷ Read 0 ∷ []) (Read 0) byte 7 ∷ []
 
 -- "Stop code 0: 9 (8 bits), 17 (5); 7: 16, 24; 15: 32, 32.": in the frame of 0 without parity only the stop is high
 abbrev pub case3 : List Row
-case3 = asks 19 0 0 highs 9 ∷ asks 16 0 0 highs 17 ∷ asks 19 7 0 highs 16 ∷ asks 16 7 0 highs 24 ∷ asks 19 15 0 highs 32 ∷ asks 16 15 0 highs 32 ∷ []
+case3 =
+    asks 19 0 0 highs 9 ∷ asks 16 0 0 highs 17 ∷ asks 19 7 0 highs 16 ∷ asks 16 7 0 highs 24 ∷ asks 19 15 0 highs 32
+    ∷ asks 16 15 0 highs 32 ∷ []
 
 -- "85, MR1 19, MR2 7: 0101010101, 160 pulses, 3,840 ticks at code 11.": asked for
 abbrev pub case4 : List Row
@@ -148,7 +157,8 @@ case4 =
     ∷ asks 19 7 85 pulses 160
     ∷ []
 
--- and sent: the first four bits, 384 ticks apart; the next character starts 3,840 ticks after the first. (All its levels: Sending.)
+-- and sent: the first four bits, 384 ticks apart; the next character starts 3,840 ticks after the first. (All its
+-- levels: Sending.)
 abbrev pub case4sent : List Row
 case4sent = sent 192 0 ∷ sent 576 1 ∷ sent 960 0 ∷ sent 1344 1 ∷ sent 3839 1 ∷ sent 3840 0 ∷ []
 
@@ -160,7 +170,8 @@ case5 = asks 2 7 65 (middle 8) 0 ∷ asks 6 7 65 (middle 8) 1 ∷ []
 abbrev pub case6 : List Row
 case6 = asks 16 7 255 (value 5) 31 ∷ asks 16 7 255 pulses 120 ∷ []
 
--- "Receiver only, 1, 2, 3, 4 arrive: SR 3; next start: SR 19; 5 arrives: reads 1, 2, 3, 5.": at 1X, where a low is a start, and at 16X, where the ninth is
+-- "Receiver only, 1, 2, 3, 4 arrive: SR 3; next start: SR 19; 5 arrives: reads 1, 2, 3, 5.": at 1X, where a low is a
+-- start, and at 16X, where the ninth is
 abbrev pub case7 : List Row
 case7 =
     shows (fourArrive false) (Read 1) byte 3
@@ -182,7 +193,8 @@ case8 =
     ∷ shows (fourArrive false ++ Write 2 32 ∷ []) (Read 3) byte 0
     ∷ []
 
--- "Low 8 pulses, high at p+8: nothing. Low at p+8: a start.": with the line high from then on no character comes, or one does, of ones
+-- "Low 8 pulses, high at p+8: nothing. Low at p+8: a start.": with the line high from then on no character comes, or
+-- one does, of ones
 abbrev pub case9 : List Row
 case9 =
     shows (listening true ++ heard (replicate 8 false ++ replicate 200 true)) (Read 1) byte 0
@@ -192,14 +204,16 @@ case9 =
 
 -- "Counter on ticks/16, phase 0, preload 3: ISR bit 3 after 48 ticks, not 47."
 abbrev pub case10 : List Row
-case10 = shows (counting ++ replicate 48 Tick) (Read 5) byte 8 ∷ shows (counting ++ replicate 47 Tick) (Read 5) byte 0 ∷ []
+case10 =
+    shows (counting ++ replicate 48 Tick) (Read 5) byte 8 ∷ shows (counting ++ replicate 47 Tick) (Read 5) byte 0 ∷ []
 
 -- "Timer on ticks, preload 2, start: ISR bit 3 after 4 ticks, not 3."
 abbrev pub case11 : List Row
 case11 = shows (timing ++ replicate 4 Tick) (Read 5) byte 8 ∷ shows (timing ++ replicate 3 Tick) (Read 5) byte 0 ∷ []
 
 abbrev pub table : List Row
-table = (case1 ++ case2 ++ case3 ++ case4) ++ case4sent ++ (case5 ++ case6) ++ case7 ++ (case8 ++ case9 ++ case10 ++ case11)
+table =
+    (case1 ++ case2 ++ case3 ++ case4) ++ case4sent ++ (case5 ++ case6) ++ case7 ++ (case8 ++ case9 ++ case10 ++ case11)
 
 -- all hold
 abbrev pub Cases : Chip → Request → Type 0

@@ -5,13 +5,14 @@ use mathlib.Core.List.{List, [], _∷_, _++_}
 use Rattle.bytes.specs.Bytes.{hasBit}
 use Rattle.events.specs.declared.events.Event.{Event}
 use Rattle.events.specs.declared.events.Event.the-variants.{Read}
-use Rattle.answers.specs.declared.answers.Lines.{Lines}
-use Rattle.chip.specs.Table.{Step}
-use Rattle.chip.specs.Sound.{after}
-use Rattle.chip.specs.Reset.{resetAt}
-use Rattle.chip.specs.Lists.{Seen, seenOf}
+use Rattle.chip_answers.specs.declared.answers.Lines.{Lines}
+use Rattle.chip_laws.specs.Table.{Step}
+use Rattle.chip_laws.specs.Sound.{after}
+use Rattle.chip_laws.specs.Reset.{resetAt}
+use Rattle.chip_laws.specs.Lists.{Seen, seenOf}
 
--- What it answers to an event: the number, the data byte and the lines, after a chip reset with these levels on its pins and then these events.
+-- What it answers to an event: the number, the data byte and the lines, after a chip reset with these levels on its
+-- pins and then these events.
 abbrev pub Chip : Type 0
 Chip = ℕ → List Event → Event → Seen
 
@@ -28,10 +29,10 @@ unfoldable pub over : {X : Type 0} → (X → Event → X) → X → List Event 
 over then x [] = x
 over then x (e ∷ es) = over then (then x e) es
 
--- all of them are of a kind
-abbrev pub allOf : (Event → Bool) → List Event → Bool
-allOf is [] = true
-allOf is (e ∷ es) = is e && allOf is es
+-- all of them are of a kind (the statements' own; the transmitter's laws have one for its inputs)
+abbrev pub eachOf : (Event → Bool) → List Event → Bool
+eachOf is [] = true
+eachOf is (e ∷ es) = is e && eachOf is es
 
 -- ---- the channels ----
 

@@ -8,13 +8,13 @@ use Rattle.clocks.specs.Channel.{clockedOf}
 use Rattle.clocks.specs.Pulses.{Side, pulsed}
 use Rattle.inputs.specs.declared.inputs.ChannelPins.{ChannelPins}
 use Rattle.inputs.specs.Inputs.{movedOf, pinsOfA, pinsOfB}
-use Rattle.side.specs.declared.side.Side as Sides
+use Rattle.front_side.specs.declared.side.Side as Sides
 use Rattle.front.specs.declared.front.Front.{Front}
 use Rattle.front.specs.Front.{frontAt, withPorts}
 use Rattle.front_clocks.specs.Clocking.{countedOf}
 use Rattle.events.specs.declared.events.Event.{Event}
 use Rattle.events.specs.declared.events.Event.the-variants.{ChipReset, Read, Write, Acknowledge, Pins, Tick}
-use Rattle.chip.specs.Alone.{handedAfter}
+use Rattle.chip_laws.specs.Alone.{handedAfter}
 use Rattle.demands.specs.Chip.{Channel, ofChannel, over}
 
 -- the front after a chip reset with these levels on the pins and then these events
@@ -40,7 +40,8 @@ pulsedBy side ch f ChipReset = false
 pulsedBy side ch f (Read n) = false
 pulsedBy side ch f (Write n byte) = false
 pulsedBy side ch f Acknowledge = false
-pulsedBy side ch f (Pins levels) = pulsed side (clocksOf ch (withPorts f (movedOf (f .inputs) levels) (f .outputs)) (f .inputs .levels) false)
+pulsedBy side ch f (Pins levels) =
+    pulsed side (clocksOf ch (withPorts f (movedOf (f .inputs) levels) (f .outputs)) (f .inputs .levels) false)
 pulsedBy side ch f Tick = pulsed side (clocksOf ch f (f .inputs .levels) true)
 
 -- after these events since a chip reset

@@ -1,14 +1,15 @@
--- Demand 2: ".. counter .. follow the Motorola manuals as document 01 fixes them.": what the events bring to the counter/timer, and what is then
--- seen of it after any events: the count, ISR bit 3 and the timer output. It is run by itself, with the 1X transmitter clocks of the front run
--- alone; the laws of crate timer say what it does. Assumes nothing.
+-- Demand 2: ".. counter .. follow the Motorola manuals as document 01 fixes them.": what the events bring to the
+-- counter/timer, and what is then seen of it after any events: the count, ISR bit 3 and the timer output. It is run by
+-- itself, with the 1X transmitter clocks of the front run alone; the laws of crate timer say what it does. Assumes
+-- nothing.
 use Prim.Native.Nat.{ℕ, _*_, _+_, _/_, _%_}
 use mathlib.Core.Path.{_≡_}
 use mathlib.Core.Bool.{Bool, true, false}
 use mathlib.Core.List.{List, [], _∷_}
 use lib.Dec.{eqb}
 use Rattle.format.specs.Pick.{pick}
-use Rattle.counting.specs.declared.counting.Timer.{Timer}
-use Rattle.counting.specs.Counting.{freshTimer, modeOf, isTimer, withPreload}
+use Rattle.timer_state.specs.declared.counting.Timer.{Timer}
+use Rattle.timer_state.specs.Counting.{freshTimer, modeOf, isTimer, withPreload}
 use Rattle.timer.specs.Timer.{tickedBy, edgedBy, transmittedBy, startedOf, stoppedOf, modeChanged}
 use Rattle.bytes.specs.Bytes.{hasBit}
 use Rattle.inputs.specs.Inputs.{risesOf, movedOf}
@@ -22,7 +23,8 @@ use Rattle.demands.specs.Told.{levelsAfter}
 use Rattle.demands.specs.Clocks.{frontAfter, clocksOf}
 use Rattle.demands.specs.Registers.{opcrThen, acrAfter}
 
--- whether a tick, or a pin event, is a pulse of a channel's 1X transmitter clock: "every 16th 16X pulse since that phase restarted, or each 1X pulse"
+-- whether a tick, or a pin event, is a pulse of a channel's 1X transmitter clock: "every 16th 16X pulse since that
+-- phase restarted, or each 1X pulse"
 abbrev pub tickOne : Channel → ℕ → List Event → Bool
 tickOne ch levels es = let f : Front = frontAfter levels es in clocksOf ch f (f .inputs .levels) true .one
 
@@ -40,7 +42,8 @@ oneAfter ch levels es Acknowledge = false
 oneAfter ch levels es (Pins x) = pinsOne ch levels es x
 oneAfter ch levels es Tick = tickOne ch levels es
 
--- one event, in the mode that ACR 6-4 have chosen; "counter/timer from ticks or IP2; .. counter from a 1X transmitter clock" last
+-- one event, in the mode that ACR 6-4 have chosen; "counter/timer from ticks or IP2; .. counter from a 1X transmitter
+-- clock" last
 unfoldable pub timerThen : ℕ → List Event → Timer → Event → Timer
 timerThen levels es t ChipReset = freshTimer
 timerThen levels es t (Read n) =
@@ -52,10 +55,12 @@ timerThen levels es t (Write n byte) =
     t))
 timerThen levels es t Acknowledge = t
 timerThen levels es t (Pins x) =
-    transmittedBy (pick (risesOf (levelsAfter levels es) x 2) (edgedBy t (modeOf (acrAfter es)) .timer) t) (modeOf (acrAfter es))
+    transmittedBy (pick (risesOf (levelsAfter levels es) x 2) (edgedBy t (modeOf (acrAfter es)) .timer) t)
+    (modeOf (acrAfter es))
     (pinsOne A levels es x) (pinsOne B levels es x)
 timerThen levels es t Tick =
-    transmittedBy (tickedBy t (modeOf (acrAfter es)) .timer) (modeOf (acrAfter es)) (tickOne A levels es) (tickOne B levels es)
+    transmittedBy (tickedBy t (modeOf (acrAfter es)) .timer) (modeOf (acrAfter es)) (tickOne A levels es)
+    (tickOne B levels es)
 
 unfoldable pub timerFrom : ℕ → Timer → List Event → List Event → Timer
 timerFrom levels t before [] = t
@@ -72,5 +77,6 @@ pub record Counted (c : Chip) : Type 0 where
   -- ISR bit 3
   pub bit : (levels : ℕ) (es : List Event) → hasBit (shows c levels es 5) 3 ≡ timerAfter levels es .ready
   -- "OPCR 3-2 = 01 puts the timer output on OP3"
-  pub output : (levels : ℕ) (es : List Event) → eqb (over opcrThen 0 es / 4 % 4) 1 ≡ true → isTimer (modeOf (acrAfter es)) ≡ true
+  pub output : (levels : ℕ) (es : List Event) → eqb (over opcrThen 0 es / 4 % 4) 1 ≡ true
+      → isTimer (modeOf (acrAfter es)) ≡ true
       → hasBit (linesAfter c levels es .op) 3 ≡ timerAfter levels es .output

@@ -1,19 +1,19 @@
--- Demand 2: ".. counter .. follow the Motorola manuals as document 01 fixes them.": the counter/timer from a start on, where ticks or the pin IP2
--- pulse it (its other clocks are the transmitters': crate timer). Assumes nothing.
+-- Demand 2: ".. counter .. follow the Motorola manuals as document 01 fixes them.": the counter/timer from a start on,
+-- where ticks or the pin IP2 pulse it (its other clocks are the transmitters': crate timer). Assumes nothing.
 use Prim.Native.Nat.{ℕ, suc, _+_, _*_, _-_, _<_, _/_, _%_}
 use mathlib.Core.Path.{_≡_}
 use mathlib.Core.Bool.{Bool, true, false, not, _&&_, _||_}
-use mathlib.Core.List.{List, [], _∷_, _++_}
+use mathlib.Core.List.{List, _∷_, _++_}
 use lib.Dec.{eqb, leb}
 use Rattle.format.specs.Pick.{pick}
 use Rattle.format.specs.Digits.{bit}
 use Rattle.bytes.specs.Bytes.{hasBit}
 use Rattle.inputs.specs.Inputs.{risesOf}
-use Rattle.counting.specs.Counting.{modeOf, isTimer, tickPulses, edgePulses}
+use Rattle.timer_state.specs.Counting.{modeOf, isTimer, tickPulses, edgePulses}
 use Rattle.timer.specs.Counts.{pulsesOf}
 use Rattle.events.specs.declared.events.Event.{Event}
 use Rattle.events.specs.declared.events.Event.the-variants.{ChipReset, Read, Write, Acknowledge, Pins, Tick}
-use Rattle.demands.specs.Chip.{Chip, andThen, over, allOf, shows, linesAfter}
+use Rattle.demands.specs.Chip.{Chip, andThen, over, eachOf, shows, linesAfter}
 use Rattle.demands.specs.Registers.{opcrThen, acrAfter}
 
 -- "6, 7 .. preload high, low"
@@ -37,8 +37,8 @@ pub record Elapsed : Type 0 where
   pub levels : ℕ
   pub pulses : ℕ
 
--- "ACR 6-4: 0-3 counter on rising IP2, .. ticks/16; 4-7 timer on rising IP2, IP2/16, ticks, ticks/16. Both /16 phases always run, from 0 at a chip
--- reset."
+-- "ACR 6-4: 0-3 counter on rising IP2, .. ticks/16; 4-7 timer on rising IP2, IP2/16, ticks, ticks/16. Both /16 phases
+-- always run, from 0 at a chip reset."
 unfoldable pub elapsedThen : ℕ → Elapsed → Event → Elapsed
 elapsedThen mode x ChipReset = record { ticks = 0; edges = 0; levels = x .levels; pulses = 0 }
 elapsedThen mode x (Read n) = x
@@ -62,7 +62,8 @@ elapsedThen mode x Tick =
     }
 
 abbrev pub pulsesAfter : ℕ → ℕ → List Event → ℕ
-pulsesAfter mode levels es = over (elapsedThen mode) (record { ticks = 0; edges = 0; levels = levels; pulses = 0 }) es .pulses
+pulsesAfter mode levels es =
+    over (elapsedThen mode) (record { ticks = 0; edges = 0; levels = levels; pulses = 0 }) es .pulses
 
 -- ---- the statement ----
 
@@ -88,12 +89,13 @@ loads mode es Tick = false
 abbrev pub since : ℕ → ℕ → List Event → Event → List Event → ℕ
 since mode levels es load fs = pulsesAfter mode levels (es ++ load ∷ fs) - pulsesAfter mode levels es
 
--- After these events it is loaded in a mode whose clock is not a transmitter's, and then comes what leaves it alone. Preloads are made of bytes.
+-- After these events it is loaded in a mode whose clock is not a transmitter's, and then comes what leaves it alone.
+-- Preloads are made of bytes.
 pub record Loaded (mode : ℕ) (es : List Event) (load : Event) (fs : List Event) : Type 0 where
   pub loaded : loads mode es load ≡ true
   pub clock : (mode ≡ 1 → ⊥) × (mode ≡ 2 → ⊥)
   pub preload : preloadAfter es < 65536
-  pub left : allOf leavesCounter fs ≡ true
+  pub left : eachOf leavesCounter fs ≡ true
 
 -- the count as registers 6 and 7 show it
 abbrev pub countShown : Chip → ℕ → List Event → ℕ
@@ -108,10 +110,11 @@ pub record Counter (c : Chip) : Type 0 where
       → hasBit (shows c levels (es ++ Read 14 ∷ fs) 5) 3
       ≡ (hasBit (shows c levels es 5) 3 || leb (pulsesOf (preloadAfter es)) (since mode levels es (Read 14) fs))
   -- "stop halts"; "A change of ACR 6-4 reloads, .. and runs exactly in timer modes."
-  pub halts : (levels : ℕ) (es fs : List Event) → isTimer (modeOf (acrAfter es)) ≡ false → allOf leavesCounter fs ≡ true
+  pub halts : (levels : ℕ) (es fs : List Event) → isTimer (modeOf (acrAfter es)) ≡ false
+      → eachOf leavesCounter fs ≡ true
       → countShown c levels (es ++ Read 15 ∷ fs) ≡ countShown c levels es
   pub changed : (levels mode byte : ℕ) (es fs : List Event) → loads mode es (Write 4 byte) ≡ true → isTimer mode ≡ false
-      → allOf leavesCounter fs ≡ true → countShown c levels (es ++ Write 4 byte ∷ fs) ≡ preloadAfter es
+      → eachOf leavesCounter fs ≡ true → countShown c levels (es ++ Write 4 byte ∷ fs) ≡ preloadAfter es
   -- "Timer: always runs; terminal toggles and reloads": started, or by a change of mode
   pub reloads : (levels mode : ℕ) (es fs : List Event) (load : Event) → Loaded mode es load fs → isTimer mode ≡ true
       → countShown c levels (es ++ load ∷ fs)
@@ -123,16 +126,22 @@ pub record Counter (c : Chip) : Type 0 where
   -- "OPCR 3-2 = 01 puts the timer output on OP3"
   pub output : (levels mode : ℕ) (es fs : List Event) (load : Event) → Loaded mode es load fs → isTimer mode ≡ true
       → eqb (over opcrThen 0 (es ++ load ∷ fs) / 4 % 4) 1 ≡ true
-      → hasBit (linesAfter c levels (es ++ load ∷ fs) .op) 3 ≡ eqb (since mode levels es load fs / pulsesOf (preloadAfter es) % 2) 0
-  -- "stop clears the bit": of a counter and of a timer, whose count and output go on as if there had been no stop ("stop clears the bit only")
+      → hasBit (linesAfter c levels (es ++ load ∷ fs) .op) 3
+      ≡ eqb (since mode levels es load fs / pulsesOf (preloadAfter es) % 2) 0
+  -- "stop clears the bit": of a counter and of a timer, whose count and output go on as if there had been no stop
+  -- ("stop clears the bit only")
   pub clears : (levels : ℕ) (es : List Event) → hasBit (shows c levels (andThen es (Read 15)) 5) 3 ≡ false
-  pub runsOn : (levels : ℕ) (es fs : List Event) → isTimer (modeOf (acrAfter es)) ≡ true → allOf leavesCounter fs ≡ true
+  pub runsOn : (levels : ℕ) (es fs : List Event) → isTimer (modeOf (acrAfter es)) ≡ true
+      → eachOf leavesCounter fs ≡ true
       → (countShown c levels (es ++ Read 15 ∷ fs) ≡ countShown c levels (es ++ fs))
       × (eqb (over opcrThen 0 (es ++ fs) / 4 % 4) 1 ≡ true
       → hasBit (linesAfter c levels (es ++ Read 15 ∷ fs) .op) 3 ≡ hasBit (linesAfter c levels (es ++ fs) .op) 3)
-  -- "start reloads .., setting no bit"; "A change of ACR 6-4 reloads, .. setting no bit": nor do they clear it, nor does any write of ACR
-  pub starts : (levels : ℕ) (es : List Event) → hasBit (shows c levels (andThen es (Read 14)) 5) 3 ≡ hasBit (shows c levels es 5) 3
-  pub sets : (levels byte : ℕ) (es : List Event) → hasBit (shows c levels (andThen es (Write 4 byte)) 5) 3 ≡ hasBit (shows c levels es 5) 3
+  -- "start reloads .., setting no bit"; "A change of ACR 6-4 reloads, .. setting no bit": nor do they clear it, nor
+  -- does any write of ACR
+  pub starts : (levels : ℕ) (es : List Event)
+      → hasBit (shows c levels (andThen es (Read 14)) 5) 3 ≡ hasBit (shows c levels es 5) 3
+  pub sets : (levels byte : ℕ) (es : List Event)
+      → hasBit (shows c levels (andThen es (Write 4 byte)) 5) 3 ≡ hasBit (shows c levels es 5) 3
   -- a write of ACR that leaves bits 6-4, or of a preload, leaves the count
   pub kept : (levels byte : ℕ) (es : List Event) → eqb (modeOf (acrAfter es)) (modeOf byte) ≡ true
       → countShown c levels (andThen es (Write 4 byte)) ≡ countShown c levels es

@@ -1,8 +1,9 @@
--- Demand 3: "Take any list of accepted events after a chip reset, and on each channel the characters that the line, the clock pulses, the format
--- and the enable alone put together. Those the program read while the ready bit was set, then those still held, are exactly these characters in
--- order, each once, less those overrun removed by document 01's rule and those a receiver or chip reset dropped. At most four are ever held."
--- The list may hold refused events too: they do nothing (Reached). The ledger is written from the events, the clock pulses (Pulses) and a sampler run
--- alone (crate sampling), and what was read and what is held from the answers. Assumes nothing.
+-- Demand 3: "Take any list of accepted events after a chip reset, and on each channel the characters that the line, the
+-- clock pulses, the format and the enable alone put together. Those the program read while the ready bit was set, then
+-- those still held, are exactly these characters in order, each once, less those overrun removed by document 01's rule
+-- and those a receiver or chip reset dropped. At most four are ever held." The list may hold refused events too: they
+-- do nothing (Reached). The ledger is written from the events, the clock pulses (Pulses) and a sampler run alone (crate
+-- sampler_laws), and what was read and what is held from the answers. Assumes nothing.
 use Prim.Native.Nat.{ℕ, zero, suc, _/_, _%_}
 use mathlib.Core.Path.{_≡_}
 use mathlib.Core.Bool.{Bool, false, not, _&&_}
@@ -13,15 +14,16 @@ use Rattle.format.specs.Pick.{pick}
 use Rattle.format.specs.Format.{formatOf}
 use Rattle.character.specs.declared.character.Character.{Character}
 use Rattle.character.specs.declared.character.Marks.{Marks}
-use Rattle.assembly.specs.State.{hunting}
+use Rattle.sampler_state.specs.State.{hunting}
 use Rattle.sampler.specs.Lines.{Line, hears, arrivals}
 use Rattle.sampler.specs.Lines.Line.{pulse, enable, disable}
-use Rattle.receiver.specs.Delivery.{Ledger, opened, meets, dropAll, clears, pulseWritten, asArrived, live, known, fatedBy}
+use Rattle.receiver.specs.Delivery.{Ledger, opened, meets, dropAll, clears, pulseWritten, asArrived, live, known}
+use Rattle.receiver.specs.Delivery.{fatedBy}
 use Rattle.receiver.specs.Delivery.Fate.{WasRead, Held}
 use Rattle.clocks.specs.Channel.{isSixteen}
 use Rattle.clocks.specs.Pulses.Side.{receives}
 use Rattle.bytes.specs.Bytes.{hasBit}
-use Rattle.events.specs.Refusals.{commandForbidden}
+use Rattle.events.specs.Command.{commandForbidden}
 use Rattle.events.specs.declared.events.Event.{Event}
 use Rattle.events.specs.declared.events.Event.the-variants.{ChipReset, Read, Write, Acknowledge, Pins, Tick}
 use Rattle.demands.specs.Chip.{Chip, Channel, ofChannel, registerOf, andThen, shows, statusBit}
@@ -34,12 +36,14 @@ commands ch n byte = eqb n (registerOf ch 2) && not (commandForbidden byte)
 
 -- ---- "the line, the clock pulses, the format and the enable alone" ----
 
--- A pulse is heard by an enabled receiver: RxD as it stands after the event ("6 RxDA, 7 RxDB"), and the format and 16X or 1X of MR1 and CSR.
+-- A pulse is heard by an enabled receiver: RxD as it stands after the event ("6 RxDA, 7 RxDB"), and the format and 16X
+-- or 1X of MR1 and CSR.
 abbrev pub pulseLines : Channel → ℕ → List Event → Event → List Line
 pulseLines ch levels es e =
     let p : Programmed = programmed ch es in
     pick (p .receives && pulsedAfter receives ch levels es e)
-    (pulse (hasBit (levelsAfter levels (andThen es e)) (ofChannel ch 6 7)) (record { format = formatOf (p .mr1); sixteen = isSixteen (p .csr / 16) }) ∷ [])
+    (pulse (hasBit (levelsAfter levels (andThen es e)) (ofChannel ch 6 7))
+    (record { format = formatOf (p .mr1); sixteen = isSixteen (p .csr / 16) }) ∷ [])
     []
 
 -- "there every receiver or chip reset is a disable, even where the same command enables again": bits 6-4
@@ -51,7 +55,8 @@ abbrev pub enablingLines : Bool → ℕ → List Line
 enablingLines enabled bits = pick (eqb bits 1) (pick enabled [] (enable ∷ [])) (pick (eqb bits 2) (disable ∷ []) [])
 
 abbrev pub commandLines : Bool → ℕ → List Line
-commandLines enabled byte = resetLines (byte / 16 % 8) ++ enablingLines (enabled && not (eqb (byte / 16 % 8) 2)) (byte % 4)
+commandLines enabled byte =
+    resetLines (byte / 16 % 8) ++ enablingLines (enabled && not (eqb (byte / 16 % 8) 2)) (byte % 4)
 
 -- what a channel's sampler hears of one event after these: a read, or a command that clears, is nothing to it
 unfoldable pub linesAt : Channel → ℕ → List Event → Event → List Line
@@ -69,39 +74,44 @@ linesFrom ch levels before (e ∷ es) = linesAt ch levels before e ++ linesFrom 
 
 -- ---- the ledger: each arrival whole as it arrived, whether command 4 cleared its marks, and its fate ----
 
--- bits 6-4 of an accepted command: "2 reset receiver (..; queue, waiting place and assembly cleared; overrun mark stays)"; "4 clear overrun, ..
--- and the top character's marks"
+-- bits 6-4 of an accepted command: "2 reset receiver (..; queue, waiting place and assembly cleared; overrun mark
+-- stays)"; "4 clear overrun, .. and the top character's marks"
 abbrev pub commandFate : Ledger → ℕ → Ledger
 commandFate l effect =
     pick (eqb effect 2) (record { sampler = l .sampler; entries = dropAll (l .entries); overran = l .overran })
     (pick (eqb effect 4) (record { sampler = l .sampler; entries = clears (l .entries); overran = false })
     l)
 
--- the fates that an event brings by its register and byte alone: "A read takes the oldest"; a chip reset drops all, and clears every mark
+-- the fates that an event brings by its register and byte alone: "A read takes the oldest"; a chip reset drops all, and
+-- clears every mark
 unfoldable pub fateOf : Channel → Ledger → Event → Ledger
 fateOf ch l ChipReset = record { sampler = l .sampler; entries = dropAll (l .entries); overran = false }
 fateOf ch l (Read n) =
-    pick (eqb n (registerOf ch 3)) (record { sampler = l .sampler; entries = meets 0 WasRead (l .entries); overran = l .overran }) l
+    pick (eqb n (registerOf ch 3))
+    (record { sampler = l .sampler; entries = meets 0 WasRead (l .entries); overran = l .overran }) l
 fateOf ch l (Write n byte) = pick (commands ch n byte) (commandFate l (byte / 16 % 8)) l
 fateOf ch l Acknowledge = l
 fateOf ch l (Pins x) = l
 fateOf ch l Tick = l
 
--- what is heard: a confirmed start removes the one that waits, which is the fourth of those held; an arrival is entered last, as held
+-- what is heard: a confirmed start removes the one that waits, which is the fourth of those held; an arrival is entered
+-- last, as held
 abbrev pub heardAll : Ledger → List Line → Ledger
 heardAll l [] = l
 heardAll l (x ∷ xs) = heardAll (pulseWritten l (hears (l .sampler) x)) xs
 
 unfoldable pub ledgerFrom : Channel → ℕ → Ledger → List Event → List Event → Ledger
 ledgerFrom ch levels l before [] = l
-ledgerFrom ch levels l before (e ∷ es) = ledgerFrom ch levels (heardAll (fateOf ch l e) (linesAt ch levels before e)) (andThen before e) es
+ledgerFrom ch levels l before (e ∷ es) =
+    ledgerFrom ch levels (heardAll (fateOf ch l e) (linesAt ch levels before e)) (andThen before e) es
 
 abbrev pub ledger : Channel → ℕ → List Event → Ledger
 ledger ch levels es = ledgerFrom ch levels opened [] es
 
 -- ---- what the program read, and what is held, by the answers ----
 
--- "1 pointer to MR1", and MR1 without block errors: then "SR 7-5 show the oldest's marks". The chip is asked what it would show.
+-- "1 pointer to MR1", and MR1 without block errors: then "SR 7-5 show the oldest's marks". The chip is asked what it
+-- would show.
 abbrev pub characterErrors : Channel → List Event → List Event
 characterErrors ch es = es ++ Write (registerOf ch 2) 16 ∷ Write (registerOf ch 0) 19 ∷ []
 
@@ -113,10 +123,12 @@ marksShown c levels ch es =
       parity = statusBit c levels ch (characterErrors ch es) 5;
     }
 
--- "read while the ready bit was set": the answer's data byte, where a read of SR would have shown bit 0 just before, under the marks shown then
+-- "read while the ready bit was set": the answer's data byte, where a read of SR would have shown bit 0 just before,
+-- under the marks shown then
 abbrev pub readAt : Chip → ℕ → Channel → List Event → List Character
 readAt c levels ch es =
-    pick (statusBit c levels ch es 0) (record { byte = shows c levels es (registerOf ch 3); marks = marksShown c levels ch es } ∷ []) []
+    pick (statusBit c levels ch es 0)
+    (record { byte = shows c levels es (registerOf ch 3); marks = marksShown c levels ch es } ∷ []) []
 
 -- an event that reads the channel's buffer
 abbrev pub readsBuffer : Channel → Event → Bool
@@ -129,7 +141,8 @@ readsBuffer ch Tick = false
 
 unfoldable pub readFrom : Chip → ℕ → Channel → List Event → List Event → List Character
 readFrom c levels ch before [] = []
-readFrom c levels ch before (e ∷ es) = pick (readsBuffer ch e) (readAt c levels ch before) [] ++ readFrom c levels ch (andThen before e) es
+readFrom c levels ch before (e ∷ es) =
+    pick (readsBuffer ch e) (readAt c levels ch before) [] ++ readFrom c levels ch (andThen before e) es
 
 -- those still held: what so many reads more would give, while the ready bit is set
 unfoldable pub heldFor : ℕ → Chip → ℕ → Channel → List Event → List Character
@@ -142,9 +155,11 @@ held c levels ch es = heldFor 4 c levels ch es
 -- ---- the statement ----
 
 pub record Delivered (c : Chip) (levels : ℕ) (ch : Channel) (es : List Event) : Type 0 where
-  -- the ledger has the characters "that the line, the clock pulses, the format and the enable alone put together", "in order, each once"
+  -- the ledger has the characters "that the line, the clock pulses, the format and the enable alone put together", "in
+  -- order, each once"
   pub all : map asArrived (ledger ch levels es .entries) ≡ arrivals (hunting false) (linesFrom ch levels [] es)
-  -- less those removed and dropped they are "Those the program read while the ready bit was set, then those still held", bytes and marks
+  -- less those removed and dropped they are "Those the program read while the ready bit was set, then those still
+  -- held", bytes and marks
   pub fates : map known (live (ledger ch levels es .entries))
       ≡ fatedBy WasRead (readFrom c levels ch [] es) ++ fatedBy Held (held c levels ch es)
   -- "At most four are ever held.": after four reads more the ready bit is clear

@@ -1,5 +1,5 @@
--- The customer's three demands, each under the customer's own sentence, and document 01's eleven cases. Each statement takes the chip it speaks
--- of, and looks at answers alone, so that it can be shown false of a wrong one.
+-- The customer's three demands, each under the customer's own sentence, and document 01's eleven cases. Each statement
+-- takes the chip it speaks of, and looks at answers alone, so that it can be shown false of a wrong one.
 pub mod Chip
 pub mod Told
 pub mod Clocks

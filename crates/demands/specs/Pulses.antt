@@ -1,5 +1,6 @@
--- "Crystal ticks, 16X pulses and whole bits are three counts the manual keeps apart.": when each side of a channel has its pulses, by the events and by
--- what the program set. It is said of any way to tell it, and proved of the one that the demands speak of. Assumes nothing.
+-- "Crystal ticks, 16X pulses and whole bits are three counts the manual keeps apart.": when each side of a channel has
+-- its pulses, by the events and by what the program set. It is said of any way to tell it, and proved of the one that
+-- the demands speak of. Assumes nothing.
 use Prim.Native.Nat.{ℕ, suc, _+_, _*_, _<_, _/_, _%_}
 use mathlib.Core.Path.{_≡_}
 use mathlib.Core.Bool.{Bool, true, false, not, _&&_}
@@ -11,7 +12,7 @@ use Rattle.dividers.specs.Rates.{periodOf}
 use Rattle.clocks.specs.Pulses.{Side, codeOf}
 use Rattle.clocks.specs.Pulses.Side.{receives, transmits}
 use Rattle.inputs.specs.Inputs.{risesOf, fallsOf}
-use Rattle.counting.specs.Counting.{modeOf, isTimer}
+use Rattle.timer_state.specs.Counting.{modeOf, isTimer}
 use Rattle.timer.specs.Counts.{pulsesOf}
 use Rattle.events.specs.declared.events.Event.{Event}
 use Rattle.events.specs.declared.events.Event.the-variants.{ChipReset, Read, Write, Acknowledge, Pins, Tick}
@@ -31,7 +32,8 @@ pub record Restarts : Type 0 where
   pub acr : ℕ
   pub ticks : ℕ
 
--- "A CSR write restarts that channel's phases, the next pulse coming a full period later; a change of ACR bit 7 restarts all four."
+-- "A CSR write restarts that channel's phases, the next pulse coming a full period later; a change of ACR bit 7
+-- restarts all four."
 abbrev pub restartsThen : Channel → Restarts → Event → Restarts
 restartsThen ch x ChipReset = record { acr = 0; ticks = 0 }
 restartsThen ch x (Read n) = x
@@ -48,13 +50,14 @@ ticksAfter ch es = over (restartsThen ch) (record { acr = 0; ticks = 0 }) es .ti
 
 -- ---- the sources ----
 
-abbrev pub isTick : Event → Bool
-isTick ChipReset = false
-isTick (Read n) = false
-isTick (Write n byte) = false
-isTick Acknowledge = false
-isTick (Pins levels) = false
-isTick Tick = true
+-- An event of the crystal. (The chip has a test of its own: this one is the statement's.)
+abbrev pub tickEvent : Event → Bool
+tickEvent ChipReset = false
+tickEvent (Read n) = false
+tickEvent (Write n byte) = false
+tickEvent Acknowledge = false
+tickEvent (Pins levels) = false
+tickEvent Tick = true
 
 abbrev pub clocks : Event → Bool
 clocks ChipReset = false
@@ -85,20 +88,27 @@ codeAfter side ch es = codeOf side (programmed ch es .csr)
 
 pub record Pulses (pulsed : Pulsing) : Type 0 where
   -- only a tick or a pin event pulses anything: "(a start or a change of ACR gives no pulse)"
-  pub only : (side : Side) (ch : Channel) (levels : ℕ) (es : List Event) (e : Event) → clocks e ≡ false → pulsed side ch levels es e ≡ false
+  pub only : (side : Side) (ch : Channel) (levels : ℕ) (es : List Event) (e : Event) → clocks e ≡ false
+      → pulsed side ch levels es e ≡ false
   -- codes 0 to 12: at each period-th tick since the restart, and at no other event
   pub fixed : (side : Side) (ch : Channel) (levels : ℕ) (es : List Event) (e : Event) → codeAfter side ch es < 13
-      → pulsed side ch levels es e ≡ (isTick e && eqb (suc (ticksAfter ch es) % periodOf (eqb (acrAfter es / 128) 1) (codeAfter side ch es) .0) 0)
+      → pulsed side ch levels es e
+      ≡ (tickEvent e && eqb (suc (ticksAfter ch es) % periodOf (eqb (acrAfter es / 128) 1) (codeAfter side ch es) .0) 0)
   -- "14 (16X), 15 (1X)": its pin's edge
   pub pin : (side : Side) (ch : Channel) (levels : ℕ) (es : List Event) (e : Event) → 13 < codeAfter side ch es
       → pulsed side ch levels es e ≡ edgeBy side ch (levelsAfter levels es) e
   -- "13: the timer's toggle to high .., none in counter mode."
-  pub counter : (side : Side) (ch : Channel) (levels : ℕ) (es : List Event) (e : Event) → codeAfter side ch es ≡ 13 → isTimer (modeOf (acrAfter es)) ≡ false
+  pub counter : (side : Side) (ch : Channel) (levels : ℕ) (es : List Event) (e : Event) → codeAfter side ch es ≡ 13
+      → isTimer (modeOf (acrAfter es)) ≡ false
       → pulsed side ch levels es e ≡ false
-  pub toggle : (side : Side) (ch : Channel) (levels : ℕ) (es : List Event) (e : Event) → codeAfter side ch es ≡ 13 → isTimer (modeOf (acrAfter es)) ≡ true
-      → pulsed side ch levels es e ≡ (clocks e && (not (timerAfter levels es .output) && timerAfter levels (andThen es e) .output))
-  -- once it is loaded the toggle to high comes with every second terminal: the event pulses the timer, and so many pulses have come with it
-  pub timer : (side : Side) (ch : Channel) (levels mode : ℕ) (es fs : List Event) (load e : Event) → codeAfter side ch (es ++ load ∷ fs) ≡ 13
+  pub toggle : (side : Side) (ch : Channel) (levels : ℕ) (es : List Event) (e : Event) → codeAfter side ch es ≡ 13
+      → isTimer (modeOf (acrAfter es)) ≡ true
+      → pulsed side ch levels es e
+      ≡ (clocks e && (not (timerAfter levels es .output) && timerAfter levels (andThen es e) .output))
+  -- once it is loaded the toggle to high comes with every second terminal: the event pulses the timer, and so many
+  -- pulses have come with it
+  pub timer : (side : Side) (ch : Channel) (levels mode : ℕ) (es fs : List Event) (load e : Event)
+      → codeAfter side ch (es ++ load ∷ fs) ≡ 13
       → Loaded mode es load (andThen fs e) → isTimer mode ≡ true
       → pulsed side ch levels (es ++ load ∷ fs) e
       ≡ (ltb (pulsesAfter mode levels (es ++ load ∷ fs)) (pulsesAfter mode levels (es ++ load ∷ andThen fs e))
@@ -111,7 +121,9 @@ unfoldable pub sentSince : Pulsing → Channel → ℕ → Restarts → List Eve
 sentSince pulsed ch levels x before [] = x .ticks
 sentSince pulsed ch levels x before (e ∷ es) =
     sentSince pulsed ch levels
-    (pick (clocks e) (record { acr = x .acr; ticks = x .ticks + bit (pulsed transmits ch levels before e) }) (restartsThen ch x e))
+    (pick (clocks e)
+    (record { acr = x .acr; ticks = x .ticks + bit (pulsed transmits ch levels before e) })
+    (restartsThen ch x e))
     (andThen before e) es
 
 abbrev pub sentAfter : Pulsing → Channel → ℕ → List Event → ℕ

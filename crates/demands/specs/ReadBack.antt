@@ -1,6 +1,7 @@
--- Demand 2: "A frame the transmitter sends is read back by an idle, enabled, empty, undisturbed receiver with the same format and 16X pulses as the
--- same character, cut to its data bits, without an error mark." Either channel sends, and either receives; what joins TxD to RxD stands outside
--- the chip, and is any list of events in which the receiver's pulses find the levels that were sent. Assumes nothing.
+-- Demand 2: "A frame the transmitter sends is read back by an idle, enabled, empty, undisturbed receiver with the same
+-- format and 16X pulses as the same character, cut to its data bits, without an error mark." Either channel sends, and
+-- either receives; what joins TxD to RxD stands outside the chip, and is any list of events in which the receiver's
+-- pulses find the levels that were sent. Assumes nothing.
 use Prim.Native.Nat.{ℕ}
 use mathlib.Core.Path.{_≡_}
 use mathlib.Core.Bool.{Bool, true, false, not, _||_}
@@ -12,14 +13,14 @@ use Rattle.format.specs.Format.{formatOf}
 use Rattle.format.specs.declared.format.Format.{Format}
 use Rattle.frame.specs.Levels.{frame}
 use Rattle.character.specs.Character.{clean}
-use Rattle.assembly.specs.declared.state.Setting.{Setting}
+use Rattle.feed.specs.declared.feed.Setting.{Setting}
 use Rattle.sampler.specs.Lines.{Line, at16, arrivals}
 use Rattle.sampler.specs.Lines.Line.{pulse}
 use Rattle.receiver.specs.ReadBack.{Idle}
 use Rattle.bytes.specs.Bytes.{hasBit}
 use Rattle.events.specs.declared.events.Event.{Event}
 use Rattle.events.specs.declared.events.Event.the-variants.{ChipReset, Read, Write, Acknowledge, Pins, Tick}
-use Rattle.demands.specs.Chip.{Chip, Channel, ofChannel, registerOf, shows, statusBit, allOf}
+use Rattle.demands.specs.Chip.{Chip, Channel, ofChannel, registerOf, shows, statusBit, eachOf}
 use Rattle.demands.specs.Told.{programmed}
 use Rattle.demands.specs.Delivery.{linesFrom, ledger, held}
 use Rattle.demands.specs.Sending.{senderAfter, standing, Starts, startedFrame, keepsSending, pulsesFrom, sentFrom}
@@ -47,10 +48,11 @@ carried f ls = map (λ (level : Bool). pulse level f) ls
 abbrev pub formatAfter : Channel → List Event → Format
 formatAfter ch es = formatOf (programmed ch es .mr1)
 
--- Exactly that character arrives, cut to its data bits and without a mark, and nothing else; it is what is held; overrun and break change
--- are as they were; the receiver is idle again.
+-- Exactly that character arrives, cut to its data bits and without a mark, and nothing else; it is what is held;
+-- overrun and break change are as they were; the receiver is idle again.
 pub record ReadBack (c : Chip) (levels : ℕ) (ch : Channel) (es gs : List Event) (x : ℕ) : Type 0 where
-  pub one : arrivals (ledger ch levels es .sampler) (linesFrom ch levels es gs) ≡ clean (cutOf (formatAfter ch es .width .0) x) ∷ []
+  pub one : arrivals (ledger ch levels es .sampler) (linesFrom ch levels es gs)
+      ≡ clean (cutOf (formatAfter ch es .width .0) x) ∷ []
   pub held : held c levels ch (es ++ gs) ≡ clean (cutOf (formatAfter ch es .width .0) x) ∷ []
   pub overrun : statusBit c levels ch (es ++ gs) 4 ≡ statusBit c levels ch es 4
   pub change : hasBit (shows c levels (es ++ gs) 5) (ofChannel ch 2 6) ≡ hasBit (shows c levels es 5) (ofChannel ch 2 6)
@@ -58,14 +60,19 @@ pub record ReadBack (c : Chip) (levels : ℕ) (ch : Channel) (es gs : List Event
 
 pub record ReadsBack (c : Chip) : Type 0 where
   -- a frame, in the receiver's format and with any stop code, found by its pulses while nothing disturbs it
-  pub frame : (levels : ℕ) (ch : Channel) (es gs : List Event) (code x : ℕ) → Listens c levels ch es → allOf (undisturbed ch) gs ≡ true
+  pub frame : (levels : ℕ) (ch : Channel) (es gs : List Event) (code x : ℕ) → Listens c levels ch es
+      → eachOf (undisturbed ch) gs ≡ true
       → linesFrom ch levels es gs ≡ carried (at16 (formatAfter ch es)) (frame true (formatAfter ch es) code x)
       → ReadBack c levels ch es gs x
-  -- What a transmitter sends from a character's start, with 16X pulses in the receiver's format, and what the receiver's pulses find. They may be of
-  -- one chip or of two, which were reset with other levels on their pins and had other events.
-  pub sent : (there here : ℕ) (sender receiver : Channel) (es fs before gs : List Event) (e : Event) → Starts there sender es e
-      → allOf (keepsSending sender) fs ≡ true → pulsesFrom there sender es (e ∷ fs) ≡ length (startedFrame there sender es e)
+  -- What a transmitter sends from a character's start, with 16X pulses in the receiver's format, and what the
+  -- receiver's pulses find. They may be of one chip or of two, which were reset with other levels on their pins and had
+  -- other events.
+  pub sent : (there here : ℕ) (sender receiver : Channel) (es fs before gs : List Event) (e : Event)
+      → Starts there sender es e
+      → eachOf (keepsSending sender) fs ≡ true
+      → pulsesFrom there sender es (e ∷ fs) ≡ length (startedFrame there sender es e)
       → standing there sender es e .sixteen ≡ true → formatAfter sender es ≡ formatAfter receiver before
-      → Listens c here receiver before → allOf (undisturbed receiver) gs ≡ true
-      → linesFrom receiver here before gs ≡ carried (at16 (formatAfter receiver before)) (sentFrom c there sender es (e ∷ fs))
+      → Listens c here receiver before → eachOf (undisturbed receiver) gs ≡ true
+      → linesFrom receiver here before gs
+      ≡ carried (at16 (formatAfter receiver before)) (sentFrom c there sender es (e ∷ fs))
       → ReadBack c here receiver before gs (senderAfter there sender es .holding)

@@ -1,5 +1,5 @@
--- Demand 2: ".. received characters follow the Motorola manuals as document 01 fixes them.": what a program sees of a receiver beside the characters
--- themselves, over any list of events after a chip reset. Assumes nothing.
+-- Demand 2: ".. received characters follow the Motorola manuals as document 01 fixes them.": what a program sees of a
+-- receiver beside the characters themselves, over any list of events after a chip reset. Assumes nothing.
 use Prim.Native.Nat.{ℕ, suc, _/_, _%_}
 use mathlib.Core.Path.{_≡_}
 use mathlib.Core.Bool.{Bool, true, false, _&&_, _||_}
@@ -9,7 +9,7 @@ use lib.ListN.{length}
 use Rattle.format.specs.Pick.{pick}
 use Rattle.character.specs.declared.character.Marks.{Marks}
 use Rattle.character.specs.Character.{noMarks, orMarks}
-use Rattle.assembly.specs.declared.state.Sampler.{Sampler}
+use Rattle.sampler_state.specs.declared.state.Sampler.{Sampler}
 use Rattle.sampler.specs.Lines.{Line, hears}
 use Rattle.receiver.specs.Delivery.{Entry, oldestKnown}
 use Rattle.receiver.specs.Delivery.Entry.{entry}
@@ -24,7 +24,11 @@ use Rattle.demands.specs.Delivery.{commands, linesAt, ledger, readsBuffe
 -- SR bits 7-5
 abbrev pub statusMarks : Chip → ℕ → Channel → List Event → Marks
 statusMarks c levels ch es =
-    record { broken = statusBit c levels ch es 7; framing = statusBit c levels ch es 6; parity = statusBit c levels ch es 5 }
+    record {
+      broken = statusBit c levels ch es 7;
+      framing = statusBit c levels ch es 6;
+      parity = statusBit c levels ch es 5;
+    }
 
 -- an accepted command of the channel whose bits 6-4 are these
 abbrev pub commandOf : Channel → ℕ → Event → Bool
@@ -50,7 +54,8 @@ unfoldable pub lastFrom : Chip → ℕ → Channel → ℕ → List Event → Li
 lastFrom c levels ch x before [] = x
 lastFrom c levels ch x before (e ∷ es) =
     lastFrom c levels ch
-    (pick (isChipReset e) 0 (pick (readsBuffer ch e && statusBit c levels ch before 0) (shows c levels before (registerOf ch 3)) x))
+    (pick (isChipReset e) 0
+    (pick (readsBuffer ch e && statusBit c levels ch before 0) (shows c levels before (registerOf ch 3)) x))
     (andThen before e) es
 
 -- ---- block errors ----
@@ -88,15 +93,18 @@ unfoldable pub changeFrom : Channel → ℕ → Bool → List Event → List Eve
 changeFrom ch levels x before [] = x
 changeFrom ch levels x before (e ∷ es) =
     changeFrom ch levels
-    (pick (isChipReset e || commandOf ch 5 e) false (x || changes (ledger ch levels before .sampler) (linesAt ch levels before e)))
+    (pick (isChipReset e || commandOf ch 5 e) false
+    (x || changes (ledger ch levels before .sampler) (linesAt ch levels before e)))
     (andThen before e) es
 
 -- ---- the statement ----
 
 pub record Received (c : Chip) : Type 0 where
   -- "RxRDY: queue not empty. FFULL: three in the queue."
-  pub ready : (levels : ℕ) (ch : Channel) (es : List Event) → statusBit c levels ch es 0 ≡ leb 1 (length (held c levels ch es))
-  pub full : (levels : ℕ) (ch : Channel) (es : List Event) → statusBit c levels ch es 1 ≡ leb 3 (length (held c levels ch es))
+  pub ready : (levels : ℕ) (ch : Channel) (es : List Event)
+      → statusBit c levels ch es 0 ≡ leb 1 (length (held c levels ch es))
+  pub full : (levels : ℕ) (ch : Channel) (es : List Event)
+      → statusBit c levels ch es 1 ≡ leb 3 (length (held c levels ch es))
   -- "reading an empty queue repeats the last byte read (0 after a chip reset) and takes nothing"
   pub repeats : (levels : ℕ) (ch : Channel) (es : List Event) → statusBit c levels ch es 0 ≡ false
       → shows c levels es (registerOf ch 3) ≡ lastFrom c levels ch 0 [] es

@@ -1,6 +1,6 @@
--- Demand 2: ".. sent levels .. follow the Motorola manuals as document 01 fixes them.": what the events bring to a channel's transmitter, and what is then
--- seen of it: TxD, TxRDY and TxEMT. The transmitter is run alone, over its inputs; the laws of crate transmitter say what it does with them.
--- Assumes nothing.
+-- Demand 2: ".. sent levels .. follow the Motorola manuals as document 01 fixes them.": what the events bring to a
+-- channel's transmitter, and what is then seen of it: TxD, TxRDY and TxEMT. The transmitter is run alone, over its
+-- inputs; the laws of crate transmitter say what it does with them. Assumes nothing.
 use Prim.Native.Nat.{ℕ, _+_, _<_, _≤_, _/_, _%_}
 use mathlib.Core.Path.{_≡_}
 use mathlib.Core.Bool.{Bool, true, false, not, _&&_}
@@ -9,9 +9,9 @@ use lib.Dec.{eqb}
 use lib.ListN.{length, getD, take}
 use Rattle.format.specs.Digits.{bit}
 use Rattle.format.specs.Pick.{pick}
-use Rattle.sending.specs.declared.sending.Standing.{Standing}
-use Rattle.sending.specs.declared.state.Transmitter.{Transmitter}
-use Rattle.sending.specs.State.{freshTransmitter}
+use Rattle.transmitter_state.specs.declared.sending.Standing.{Standing}
+use Rattle.transmitter_state.specs.declared.state.Transmitter.{Transmitter}
+use Rattle.transmitter_state.specs.State.{freshTransmitter}
 use Rattle.transmitter.specs.declared.transmitter.Input.{Input}
 use Rattle.transmitter.specs.declared.transmitter.Input.the-variants as Inputs
 use Rattle.transmitter.specs.Transmitter.{afterInput}
@@ -20,10 +20,10 @@ use Rattle.transmitter.specs.Frames.{after, free, Startable, frameAt}
 use Rattle.clocks.specs.Channel.{isSixteen}
 use Rattle.clocks.specs.Pulses.Side.{transmits}
 use Rattle.bytes.specs.Bytes.{hasBit}
-use Rattle.answers.specs.declared.answers.Lines.{Lines}
+use Rattle.chip_answers.specs.declared.answers.Lines.{Lines}
 use Rattle.events.specs.declared.events.Event.{Event}
 use Rattle.events.specs.declared.events.Event.the-variants.{ChipReset, Read, Write, Acknowledge, Pins, Tick}
-use Rattle.demands.specs.Chip.{Chip, Channel, ofChannel, registerOf, andThen, statusBit, linesAfter, allOf}
+use Rattle.demands.specs.Chip.{Chip, Channel, ofChannel, registerOf, andThen, statusBit, linesAfter, eachOf}
 use Rattle.demands.specs.Told.{Programmed, levelsAfter, programmed}
 use Rattle.demands.specs.Clocks.{pulsedAfter}
 use Rattle.demands.specs.Pulses.{clocks}
@@ -43,7 +43,8 @@ standing levels ch es e =
     }
 
 abbrev pub pulseInputs : ℕ → Channel → List Event → Event → List Input
-pulseInputs levels ch es e = pick (pulsedAfter transmits ch levels es e) (Inputs.Pulse (standing levels ch es e) ∷ []) []
+pulseInputs levels ch es e =
+    pick (pulsedAfter transmits ch levels es e) (Inputs.Pulse (standing levels ch es e) ∷ []) []
 
 -- "3 reset transmitter"; "6, 7 start, stop break"
 abbrev pub effectInputs : ℕ → List Input
@@ -92,11 +93,13 @@ pub record Transmits (c : Chip) : Type 0 where
   pub ignored : (levels x : ℕ) (ch : Channel) (es fs : List Event) (e : Event) → programmed ch es .transmits ≡ false
       → c levels (es ++ Write (registerOf ch 3) x ∷ fs) e ≡ c levels (es ++ fs) e
   pub replaced : (levels x y : ℕ) (ch : Channel) (es fs : List Event) (e : Event)
-      → c levels (es ++ Write (registerOf ch 3) x ∷ Write (registerOf ch 3) y ∷ fs) e ≡ c levels (es ++ Write (registerOf ch 3) y ∷ fs) e
+      → c levels (es ++ Write (registerOf ch 3) x ∷ Write (registerOf ch 3) y ∷ fs) e
+      ≡ c levels (es ++ Write (registerOf ch 3) y ∷ fs) e
 
 -- ---- a character that starts ----
 
--- "A character starts on a pulse if enabled, idle, the holding place is full and CTS .. is low": it does with this event, after those
+-- "A character starts on a pulse if enabled, idle, the holding place is full and CTS .. is low": it does with this
+-- event, after those
 pub record Starts (levels : ℕ) (ch : Channel) (es : List Event) (e : Event) : Type 0 where
   pub pulse : pulsedAfter transmits ch levels es e ≡ true
   pub startable : Startable (senderAfter levels ch es) (standing levels ch es e)
@@ -117,38 +120,51 @@ keepsSending ch Tick = true
 -- how many of some events pulse the channel's transmitter, after those that came before
 unfoldable pub pulsesFrom : ℕ → Channel → List Event → List Event → ℕ
 pulsesFrom levels ch before [] = 0
-pulsesFrom levels ch before (e ∷ es) = bit (pulsedAfter transmits ch levels before e) + pulsesFrom levels ch (andThen before e) es
+pulsesFrom levels ch before (e ∷ es) =
+    bit (pulsedAfter transmits ch levels before e) + pulsesFrom levels ch (andThen before e) es
 
 -- TxD after each of these pulses, in order
 unfoldable pub sentFrom : Chip → ℕ → Channel → List Event → List Event → List Bool
 sentFrom c levels ch before [] = []
 sentFrom c levels ch before (e ∷ es) =
-    pick (pulsedAfter transmits ch levels before e) (txdAfter c levels ch (andThen before e) ∷ []) [] ++ sentFrom c levels ch (andThen before e) es
+    pick (pulsedAfter transmits ch levels before e) (txdAfter c levels ch (andThen before e) ∷ []) []
+    ++ sentFrom c levels ch (andThen before e) es
 
 pub record Sends (c : Chip) : Type 0 where
-  -- "CTS (if chosen; IP0 for A, IP1 for B) is low": else what is held stays; and one that is held by an idle, enabled transmitter starts on a pulse
+  -- "CTS (if chosen; IP0 for A, IP1 for B) is low": else what is held stays; and one that is held by an idle, enabled
+  -- transmitter starts on a pulse
   pub waits : (levels : ℕ) (ch : Channel) (es : List Event) (e : Event) → hasBit (programmed ch es .mr2) 4 ≡ true
       → hasBit (levelsAfter levels (andThen es e)) (ofChannel ch 0 1) ≡ true → clocks e ≡ true
       → statusBit c levels ch (andThen es e) 2 ≡ statusBit c levels ch es 2
   pub goes : (levels : ℕ) (ch : Channel) (es : List Event) (e : Event) → pulsedAfter transmits ch levels es e ≡ true
       → free (senderAfter levels ch es) ≡ true → programmed ch es .transmits ≡ true → statusBit c levels ch es 2 ≡ false
-      → (hasBit (programmed ch es .mr2) 4 ≡ true → hasBit (levelsAfter levels (andThen es e)) (ofChannel ch 0 1) ≡ false)
+      → (hasBit (programmed ch es .mr2) 4 ≡ true
+      → hasBit (levelsAfter levels (andThen es e)) (ofChannel ch 0 1) ≡ false)
       → statusBit c levels ch (andThen es e) 2 ≡ true
   -- with its start a character leaves the holding place
-  pub leaves : (levels : ℕ) (ch : Channel) (es : List Event) (e : Event) → Starts levels ch es e → statusBit c levels ch (andThen es e) 2 ≡ true
-  -- TxD after the k-th pulse from the start is level k-1 of the frame, and stays so until the next, whatever else comes but a reset
-  pub level : (levels : ℕ) (ch : Channel) (es fs : List Event) (e : Event) → Starts levels ch es e → allOf (keepsSending ch) fs ≡ true
+  pub leaves : (levels : ℕ) (ch : Channel) (es : List Event) (e : Event) → Starts levels ch es e
+      → statusBit c levels ch (andThen es e) 2 ≡ true
+  -- TxD after the k-th pulse from the start is level k-1 of the frame, and stays so until the next, whatever else comes
+  -- but a reset
+  pub level : (levels : ℕ) (ch : Channel) (es fs : List Event) (e : Event) → Starts levels ch es e
+      → eachOf (keepsSending ch) fs ≡ true
       → pulsesFrom levels ch (andThen es e) fs < length (startedFrame levels ch es e)
-      → txdAfter c levels ch (andThen es e ++ fs) ≡ getD (startedFrame levels ch es e) (pulsesFrom levels ch (andThen es e) fs) true
+      → txdAfter c levels ch (andThen es e ++ fs)
+      ≡ getD (startedFrame levels ch es e) (pulsesFrom levels ch (andThen es e) fs) true
   -- so the levels at the pulses are its frame, as far as they go
-  pub line : (levels : ℕ) (ch : Channel) (es fs : List Event) (e : Event) → Starts levels ch es e → allOf (keepsSending ch) fs ≡ true
+  pub line : (levels : ℕ) (ch : Channel) (es fs : List Event) (e : Event) → Starts levels ch es e
+      → eachOf (keepsSending ch) fs ≡ true
       → pulsesFrom levels ch es (e ∷ fs) ≤ length (startedFrame levels ch es e)
       → sentFrom c levels ch es (e ∷ fs) ≡ take (pulsesFrom levels ch es (e ∷ fs)) (startedFrame levels ch es e)
   -- as long as it lasts TxEMT is clear
-  pub busy : (levels : ℕ) (ch : Channel) (es fs : List Event) (e : Event) → Starts levels ch es e → allOf (keepsSending ch) fs ≡ true
+  pub busy : (levels : ℕ) (ch : Channel) (es fs : List Event) (e : Event) → Starts levels ch es e
+      → eachOf (keepsSending ch) fs ≡ true
       → pulsesFrom levels ch (andThen es e) fs < length (startedFrame levels ch es e)
       → statusBit c levels ch (andThen es e ++ fs) 3 ≡ false
   -- the pulse after its last sets it, if no other one is held
-  pub over : (levels : ℕ) (ch : Channel) (es fs : List Event) (e next : Event) → Starts levels ch es e → allOf (keepsSending ch) fs ≡ true
-      → pulsesFrom levels ch es (e ∷ fs) ≡ length (startedFrame levels ch es e) → pulsedAfter transmits ch levels (andThen es e ++ fs) next ≡ true
-      → statusBit c levels ch (andThen es e ++ fs) 2 ≡ true → statusBit c levels ch (andThen (andThen es e ++ fs) next) 3 ≡ true
+  pub over : (levels : ℕ) (ch : Channel) (es fs : List Event) (e next : Event) → Starts levels ch es e
+      → eachOf (keepsSending ch) fs ≡ true
+      → pulsesFrom levels ch es (e ∷ fs) ≡ length (startedFrame levels ch es e)
+      → pulsedAfter transmits ch levels (andThen es e ++ fs) next ≡ true
+      → statusBit c levels ch (andThen es e ++ fs) 2 ≡ true
+      → statusBit c levels ch (andThen (andThen es e ++ fs) next) 3 ≡ true

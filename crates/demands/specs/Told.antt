@@ -1,11 +1,12 @@
--- What the program has set, as the events alone tell it: each rule takes what was told so far and one event. No chip stands in it. Assumes nothing.
+-- What the program has set, as the events alone tell it: each rule takes what was told so far and one event. No chip
+-- stands in it. Assumes nothing.
 use Prim.Native.Nat.{ℕ, _/_, _%_}
 use mathlib.Core.Bool.{Bool, true, false, not, _&&_}
 use mathlib.Core.List.{List}
 use lib.Dec.{eqb}
 use Rattle.format.specs.Pick.{pick}
 use Rattle.format.specs.Format.{mr1NotModelled, mr2NotModelled}
-use Rattle.events.specs.Refusals.{commandForbidden}
+use Rattle.events.specs.Command.{commandForbidden}
 use Rattle.events.specs.declared.events.Event.{Event}
 use Rattle.events.specs.declared.events.Event.the-variants.{ChipReset, Read, Write, Acknowledge, Pins, Tick}
 use Rattle.demands.specs.Chip.{Channel, registerOf, over}
@@ -46,9 +47,11 @@ abbrev pub unprogrammed : Programmed
 unprogrammed = record { mr1 = 0; mr2 = 0; moved = false; csr = 0; receives = false; transmits = false }
 
 abbrev pub withPointer : Programmed → Bool → Programmed
-withPointer p x = record { mr1 = p .mr1; mr2 = p .mr2; moved = x; csr = p .csr; receives = p .receives; transmits = p .transmits }
+withPointer p x =
+    record { mr1 = p .mr1; mr2 = p .mr2; moved = x; csr = p .csr; receives = p .receives; transmits = p .transmits }
 
--- "0 MR1 then MR2 (both)"; "Any access at MR1 moves the pointer to MR2, where it stays."; a setting not modelled is refused, and changes nothing
+-- "0 MR1 then MR2 (both)"; "Any access at MR1 moves the pointer to MR2, where it stays."; a setting not modelled is
+-- refused, and changes nothing
 abbrev pub modeThen : Programmed → ℕ → Programmed
 modeThen p byte =
     pick (p .moved)
@@ -58,14 +61,22 @@ modeThen p byte =
     (record { mr1 = byte; mr2 = p .mr2; moved = true; csr = p .csr; receives = p .receives; transmits = p .transmits }))
 
 abbrev pub csrThen : Programmed → ℕ → Programmed
-csrThen p byte = record { mr1 = p .mr1; mr2 = p .mr2; moved = p .moved; csr = byte; receives = p .receives; transmits = p .transmits }
+csrThen p byte =
+    record {
+      mr1 = p .mr1;
+      mr2 = p .mr2;
+      moved = p .moved;
+      csr = byte;
+      receives = p .receives;
+      transmits = p .transmits;
+    }
 
 -- "01 enable, 10 disable": an enable stands as the last command that names it left it
 abbrev pub named : ℕ → Bool → Bool
 named bits enabled = pick (eqb bits 1) true (pick (eqb bits 2) false enabled)
 
--- "bits 6-4 first, then 3-2 (01 enable, 10 disable transmitter), then 1-0 (receiver). 1 pointer to MR1; 2 reset receiver (disabled; ..); 3 reset
--- transmitter (disabled, ..)"; a command with 11 is refused, and changes nothing
+-- "bits 6-4 first, then 3-2 (01 enable, 10 disable transmitter), then 1-0 (receiver). 1 pointer to MR1; 2 reset
+-- receiver (disabled; ..); 3 reset transmitter (disabled, ..)"; a command with 11 is refused, and changes nothing
 abbrev pub commandThen : Programmed → ℕ → Programmed
 commandThen p byte =
     pick (commandForbidden byte) p

@@ -9,73 +9,33 @@ use lib.Dec.{eqb}
 use lib.ListN.{replicate}
 use Rattle.character.specs.Character.{clean}
 use Rattle.character.specs.declared.character.Character.{Character}
-use Rattle.arrivals.specs.declared.arrivals.Receiver.{Receiver}
+use Rattle.receiver_state.specs.declared.arrivals.Receiver.{Receiver}
 use Rattle.receiver.specs.Delivery as Receivers
 use Rattle.receiver.specs.Delivery.{Ledger, Fate, live, known, asArrived}
 use Rattle.receiver.specs.Delivery.Fate.{WasRead, Held}
-use Rattle.sampler.specs.Lines.{hears}
 use Rattle.events.specs.declared.events.Event.{Event}
 use Rattle.events.specs.declared.events.Event.the-variants.{Read, Write, Acknowledge, Pins, Tick}
-use Rattle.format.specs.Format.{mr1NotModelled, mr2NotModelled, formatOf}
-use Rattle.outputs.specs.Outputs.{opcrNotModelled, drivenBy, drivenOp3, opLevels}
-use Rattle.commands.specs.Commands.{transmitterEffect, receiverEffect, transmitterEnabling, receiverEnabling, sideCommanded, commandFeed}
-use Rattle.events.specs.Refusals.{commandForbidden, registerAbove15, forbiddenRead, forbiddenCommand}
-use Rattle.request.specs.Request.{lengthAsked, firstRefusal, answerOf, requestOf, spaceAfter}
+use Rattle.format.specs.Format.{mr1NotModelled, mr2NotModelled}
+use Rattle.outputs.specs.Outputs.{opcrNotModelled}
+use Rattle.request.specs.Request.{lengthAsked}
 use Rattle.clocks.specs.Pulses.Side.{receives, transmits}
-use Rattle.counting.specs.Counting.{modeOf, isTimer, counterPulsed, timerPulsed, pulsedBy}
-use Rattle.format.specs.Digits.{bitsOf, valueOf, oddOnes}
-use Rattle.format.specs.Parity.{parityBitOf, parityBits}
+use Rattle.timer_state.specs.Counting.{modeOf, isTimer}
 use Rattle.format.specs.Pick.{pick}
-use Rattle.format.specs.Stop.{stopLengthOf, rowOf, stopBitsOf}
-use Rattle.frame.specs.Levels.{beforeStop, bitsBeforeStopOf, spread, levels, frame, frameLengthOf, frameBitsOf, levelOf}
-use Rattle.assembly.specs.Assembly.{dataWidthOf, samplesOf, withSample, parityWrongOf, characterOf}
-use Rattle.assembly.specs.State.{gapOf, afterStop}
-use Rattle.hunting.specs.Hunting.{lowAt, hunted, lookedAgain, followed, waited}
-use Rattle.sampler.specs.Sampler.{finished, sampled, assembled, sampleOf}
-use Rattle.queue.specs.Queue.{heldOf, putOf, withoutWaitingOf, tookOf}
-use Rattle.arrivals.specs.Arrivals.{oldestMarks, enteredOf, arrivedOf}
-use Rattle.receiver_commands.specs.Commands.{effectOf, enablingOf}
-use Rattle.receiver_status.specs.Status.{shownMarks}
-use Rattle.receiver.specs.Receiver.{oldestRead, readOf, fedOf}
-use Rattle.sending.specs.Sending.{begunOf, bitOfPulse, sentOnOf, heldHigh}
-use Rattle.transmitter.specs.Commands.{writtenOf, breakEnded, droppedOf, breakAsked}
-use Rattle.transmitter.specs.Transmitter.{afterInput}
-use Rattle.dividers.specs.Divider.{dividedOf, sixteenthOf}
-use Rattle.dividers.specs.Rates.{periodOf}
-use Rattle.clocks.specs.Channel.{restartedOnChange, tickedOf, sideOf, transmitter1x}
-use Rattle.timer.specs.Timer.{tickedBy, edgedBy, stoppedOf, modeChanged}
-use Rattle.bytes.specs.Bytes.{hasBit, weightOf, byteOf}
-use Rattle.inputs.specs.Inputs.{movedOf, pinsOfA, pinsOfB}
-use Rattle.side.specs.Side.{freshSide, modeRegister, modeNotModelled, modeWritten, csrWritten, setChanged, bufferWritten}
-use Rattle.side_clocks.specs.Clocking.{transmitterPulsed, lineOf, sideClocked}
-use Rattle.shown.specs.Shown.{receivedOf, shownOf}
+use Rattle.queue.specs.Queue.{heldOf}
+use Rattle.clocks.specs.Channel.{sideOf}
+use Rattle.bytes.specs.Bytes.{hasBit}
 use Rattle.front.specs.Front.{frontAt}
-use Rattle.front_clocks.specs.Clocking.{countedOf, clockedWith, levelsMoved}
-use Rattle.writes.specs.Writes.{sideWritten, acrWritten, sharedWritten, registerWritten}
-use Rattle.reads.specs.Reads.{sideRead, sharedRead, registerRead, frontData}
-use Rattle.front_events.specs.FrontEvents.{frontStepped}
-use Rattle.front_events.specs.NotModelled.{writeNotModelled, settingNotModelled}
-use Rattle.answers.specs.Answers.{assertedOf, timerLevel, linesOf, registerData, eventData}
-use Rattle.device.specs.Device.{freshDevice, isSoundOf}
-use Rattle.refusals.specs.Refusals.{acknowledgedUnasserted, firstOf}
-use Rattle.duart.specs.Duart.{numberOf, refusalLines, stepOf}
-use Rattle.arrivals.specs.Arrivals as inArrivals
-use Rattle.timer.specs.Timer as inTimer
-use Rattle.sending.specs.Sending as inSending
-use Rattle.duart.specs.Duart as inDuart
-use Rattle.clocks.specs.Channel as inClocks
-use Rattle.front_clocks.specs.Clocking as inFrontClocks
-use Rattle.chip.specs.Alone.{handedAfter}
-use Rattle.chip.specs.Quiet.{onlyLooks}
-use Rattle.chip.specs.Sound.{after}
-use Rattle.chip.specs.Table.{row, First}
-use Rattle.chip.proofs.Sound.{fresh-sound}
-use Rattle.chip.proofs.Table.{table}
-use Rattle.demands.specs.Chip.{Chip, chipOf, over, andThen, shows, statusBit, linesAfter, allOf}
+use Rattle.chip_device.specs.Device.{freshDevice, isSoundOf}
+use Rattle.events.specs.Command.{commandForbidden}
+use Rattle.chip_laws.specs.Quiet.{onlyLooks}
+use Rattle.chip_laws.specs.Table.{row, First}
+use Rattle.chip_laws.proofs.Sound.{fresh-sound}
+use Rattle.chip_laws.proofs.Table.{table}
+use Rattle.demands.specs.Chip.{over, andThen, shows, statusBit, linesAfter, eachOf}
 use Rattle.demands.specs.Chip.Channel.{A}
-use Rattle.demands.specs.Told.{programmed, programmedThen}
+use Rattle.demands.specs.Told.{programmed}
 use Rattle.demands.specs.Clocks as inDemands
-use Rattle.demands.specs.Clocks.{clocksOf, pulsedAfter}
+use Rattle.demands.specs.Clocks.{pulsedAfter}
 use Rattle.demands.specs.Demand1.{requestFrame}
 use Rattle.demands.specs.Registers.{ivrAfter, acrAfter, opcrThen, readsNothing}
 use Rattle.demands.specs.Counter.{elapsedThen, leavesCounter, loads, since, Loaded, countShown}
@@ -84,20 +44,14 @@ use Rattle.demands.specs.Cases.{heard, fiveArrive}
 use Rattle.demands.specs.Delivery.{ledger, readFrom, held}
 use Rattle.demands.proofs.Laws.Run.{runAt, run-sound, feedsFrom}
 use Rattle.demands.proofs.Laws.Buffer.{held-queue}
+use Rattle.demands.proofs.Laws.Looks.{chip, asking}
 use Rattle.demands.proofs.Delivery.{receiver-after, ledger-after, reads-after}
-
--- the chip that is proved
-abbrev pub c : Chip
-c = chipOf stepOf
+use Rattle.demands.proofs.Computing.{computing}
 
 abbrev pub ticks : ℕ → List Event
 ticks n = replicate n Tick
 
 -- ---- the events ----
-
--- IMR bit 0, and transmitter A enabled: ISR bit 0
-abbrev asking : List Event
-asking = Write 5 1 ∷ Write 2 4 ∷ []
 
 -- ACR 6-4 and the preload; the timer's output is chosen for OP3; and a start
 abbrev counts : ℕ → ℕ → List Event
@@ -131,12 +85,12 @@ pub record Sound : Type 0 where
   -- a sound device, and any that a run reaches
   pub fresh : isSoundOf freshDevice ≡ true
   pub run : (es : List Event) → isSoundOf (runAt 255 es) ≡ true
-  -- the table: a row that applies first, and an event to which none does (each number: Examples of the crate chip)
+  -- the table: a row that applies first, and an event to which none does (each number: Examples of the crate chip_laws)
   pub row-2 : First 2 freshDevice (Read 16)
   pub no-row : (k : ℕ) → row k freshDevice (Write 0 19) ≡ false
 
 pub record Refused : Type 0 where
-  pub above : c 255 [] (Read 16) .number ≡ 2
+  pub above : chip 255 [] (Read 16) .number ≡ 2
   pub command : (commandForbidden 3 ≡ true) × (commandForbidden 12 ≡ true)
   -- MR1 bit 7 at MR1, and MR2 bit 5 at MR2, which at MR1 is modelled; OPCR bit 0
   pub mr1 : refusesMode [] 128 ≡ true
@@ -155,13 +109,13 @@ pub record Requested : Type 0 where
 
 pub record Shown : Type 0 where
   -- an acknowledge that is accepted, and IVR; an event that reads nothing; a register that is only looked at; a disabled transmitter
-  pub accepted : c 255 asking Acknowledge .number ≡ 0
-  pub vector : (c 255 asking Acknowledge .byte ≡ 15) × (ivrAfter asking ≡ 15)
+  pub accepted : chip 255 asking Acknowledge .number ≡ 0
+  pub vector : (chip 255 asking Acknowledge .byte ≡ 15) × (ivrAfter asking ≡ 15)
   pub unread : readsNothing Tick ≡ true
   pub looks : onlyLooks 1 ≡ true
   pub disabled : programmed A [] .transmits ≡ false
   -- an empty queue; MR1 without block errors, and with them
-  pub empty : statusBit c 255 A [] 0 ≡ false
+  pub empty : statusBit chip 255 A [] 0 ≡ false
   pub character : hasBit (programmed A (Write 0 19 ∷ []) .mr1) 5 ≡ false
   pub block : hasBit (programmed A (Write 0 51 ∷ []) .mr1) 5 ≡ true
 
@@ -170,7 +124,7 @@ pub record OnPin3 : Type 0 where
   pub plain : eqb (over opcrThen 0 [] / 4 % 4) 1 ≡ false
   pub chosen : eqb (over opcrThen 0 (Write 13 4 ∷ []) / 4 % 4) 1 ≡ true
   pub counter : isTimer (modeOf (acrAfter (Write 13 4 ∷ []))) ≡ false
-  pub low : hasBit (linesAfter c 255 (started (Write 13 4 ∷ counts 48 3) (ticks 48)) .op) 3 ≡ false
+  pub low : hasBit (linesAfter chip 255 (started (Write 13 4 ∷ counts 48 3) (ticks 48)) .op) 3 ≡ false
 
 -- ---- Counter ----
 
@@ -185,23 +139,23 @@ pub record Loads : Type 0 where
 pub record Counted : Type 0 where
   -- three pulses in 48 ticks, which is the terminal, and two in 47; an edge is a pulse, a tick is none
   pub three : since 3 255 (counts 48 3) (Read 14) (ticks 48) ≡ 3
-  pub terminal : hasBit (shows c 255 (started (counts 48 3) (ticks 48)) 5) 3 ≡ true
-  pub count : countShown c 255 (started (counts 48 3) (ticks 47)) ≡ 1
+  pub terminal : hasBit (shows chip 255 (started (counts 48 3) (ticks 48)) 5) 3 ≡ true
+  pub count : countShown chip 255 (started (counts 48 3) (ticks 47)) ≡ 1
   pub edges : since 0 255 (counts 0 3) (Read 14) edge ≡ 1
   -- one that is stopped, or whose mode is changed, does not count
-  pub stopped : (isTimer (modeOf (acrAfter (counts 48 3))) ≡ false) × (allOf leavesCounter (ticks 48) ≡ true)
-  pub changed : (loads 3 (counts 0 3) (Write 4 48) ≡ true) × (countShown c 255 (counts 0 3 ++ Write 4 48 ∷ ticks 48) ≡ 3)
+  pub stopped : (isTimer (modeOf (acrAfter (counts 48 3))) ≡ false) × (eachOf leavesCounter (ticks 48) ≡ true)
+  pub changed : (loads 3 (counts 0 3) (Write 4 48) ≡ true) × (countShown chip 255 (counts 0 3 ++ Write 4 48 ∷ ticks 48) ≡ 3)
 
 pub record Timed : Type 0 where
   -- four pulses in 4 ticks, which set the bit, and three do not
   pub four : (since 6 255 timed (Read 14) (ticks 4) ≡ 4) × (since 6 255 preset (Write 4 96) (ticks 4) ≡ 4)
-  pub toggled : hasBit (shows c 255 (started timed (ticks 4)) 5) 3 ≡ true
-  pub not-yet : hasBit (shows c 255 (started timed (ticks 3)) 5) 3 ≡ false
-  pub by-change : hasBit (shows c 255 (preset ++ Write 4 96 ∷ ticks 4) 5) 3 ≡ true
+  pub toggled : hasBit (shows chip 255 (started timed (ticks 4)) 5) 3 ≡ true
+  pub not-yet : hasBit (shows chip 255 (started timed (ticks 3)) 5) 3 ≡ false
+  pub by-change : hasBit (shows chip 255 (preset ++ Write 4 96 ∷ ticks 4) 5) 3 ≡ true
   -- its output on OP3 is low from the second, and high again from the fourth
   pub chosen : eqb (over opcrThen 0 (started timed (ticks 4)) / 4 % 4) 1 ≡ true
-  pub low : hasBit (linesAfter c 255 (started timed (ticks 3)) .op) 3 ≡ false
-  pub high : hasBit (linesAfter c 255 (started timed (ticks 4)) .op) 3 ≡ true
+  pub low : hasBit (linesAfter chip 255 (started timed (ticks 3)) .op) 3 ≡ false
+  pub high : hasBit (linesAfter chip 255 (started timed (ticks 4)) .op) 3 ≡ true
   pub stopped : isTimer (modeOf (acrAfter timed)) ≡ true
 
 -- ---- Pulses ----
@@ -244,8 +198,8 @@ pub record Fated : Type 0 where
   pub all : map asArrived (ledger A 255 readOne .entries) ≡ arrived
   pub live : map known (live (ledger A 255 readOne .entries)) ≡ fates
   pub overran : ledger A 255 readOne .overran ≡ true
-  pub read : readFrom c 255 A [] readOne ≡ clean 1 ∷ []
-  pub held : held c 255 A readOne ≡ clean 2 ∷ clean 3 ∷ clean 5 ∷ []
+  pub read : readFrom chip 255 A [] readOne ≡ clean 1 ∷ []
+  pub held : held chip 255 A readOne ≡ clean 2 ∷ clean 3 ∷ clean 5 ∷ []
 
 -- ---- by computing ----
 
@@ -263,7 +217,7 @@ pub record Examples : Type 0 where
   pub fated : Fated
 
 pub examples : Examples
-unfolding bitsOf valueOf oddOnes formatOf parityBitOf parityBits pick stopLengthOf rowOf stopBitsOf beforeStop bitsBeforeStopOf spread levels frame frameLengthOf frameBitsOf levelOf dataWidthOf samplesOf withSample parityWrongOf characterOf gapOf afterStop lowAt hunted lookedAgain followed waited finished sampled assembled sampleOf heldOf putOf withoutWaitingOf tookOf oldestMarks inArrivals.startedOf inTimer.startedOf enteredOf arrivedOf inArrivals.pulsedOf inSending.pulsedOf effectOf enablingOf shownMarks oldestRead readOf fedOf inSending.takenOf inDuart.takenOf begunOf bitOfPulse sentOnOf heldHigh writtenOf breakEnded droppedOf breakAsked afterInput dividedOf sixteenthOf periodOf restartedOnChange tickedOf sideOf transmitter1x inClocks.clockedOf inFrontClocks.clockedOf counterPulsed timerPulsed pulsedBy tickedBy edgedBy stoppedOf modeChanged hasBit weightOf byteOf movedOf pinsOfA pinsOfB drivenBy drivenOp3 opLevels freshSide modeRegister modeNotModelled modeWritten csrWritten setChanged bufferWritten transmitterPulsed lineOf sideClocked transmitterEffect receiverEffect transmitterEnabling receiverEnabling sideCommanded commandFeed receivedOf shownOf frontAt countedOf clockedWith levelsMoved sideWritten acrWritten sharedWritten registerWritten sideRead sharedRead registerRead frontData registerAbove15 forbiddenRead forbiddenCommand frontStepped writeNotModelled settingNotModelled assertedOf timerLevel linesOf registerData eventData freshDevice acknowledgedUnasserted firstOf numberOf refusalLines stepOf after chipOf over handedAfter programmedThen clocksOf inDemands.pulsedBy elapsedThen firstRefusal answerOf requestOf spaceAfter heard feedsFrom hears Receivers.written Receivers.ledgerFrom Receivers.after Receivers.reads Receivers.given
+unfolding computing elapsedThen heard feedsFrom
 examples =
     let written : ledger A 255 readOne ≡ Receivers.ledger (feedsFrom A (frontAt 255) readOne) = ledger-after A 255 readOne in
     record {

@@ -7,69 +7,23 @@ use mathlib.Core.List.{List, [], _∷_, _++_}
 use lib.Dec.{eqb}
 use Rattle.events.specs.declared.events.Event.{Event}
 use Rattle.events.specs.declared.events.Event.the-variants.{Read, Write, Pins, Tick}
-use Rattle.format.specs.Format.{formatOf}
-use Rattle.outputs.specs.Outputs.{drivenBy, drivenOp3, opLevels}
-use Rattle.commands.specs.Commands.{transmitterEffect, receiverEffect, transmitterEnabling, receiverEnabling, sideCommanded, commandFeed}
 use Rattle.clocks.specs.Pulses.Side.{transmits}
-use Rattle.counting.specs.Counting.{modeOf, isTimer, counterPulsed, timerPulsed, pulsedBy}
-use Rattle.format.specs.Digits.{bitsOf, valueOf, oddOnes}
-use Rattle.format.specs.Parity.{parityBitOf, parityBits}
-use Rattle.format.specs.Pick.{pick}
-use Rattle.format.specs.Stop.{stopLengthOf, rowOf, stopBitsOf}
-use Rattle.frame.specs.Levels.{beforeStop, bitsBeforeStopOf, spread, levels, frame, frameLengthOf, frameBitsOf, levelOf}
-use Rattle.assembly.specs.Assembly.{dataWidthOf, samplesOf, withSample, parityWrongOf, characterOf}
-use Rattle.assembly.specs.State.{gapOf, afterStop}
-use Rattle.hunting.specs.Hunting.{lowAt, hunted, lookedAgain, followed, waited}
-use Rattle.sampler.specs.Sampler.{finished, sampled, assembled, sampleOf}
-use Rattle.queue.specs.Queue.{heldOf, putOf, withoutWaitingOf, tookOf}
-use Rattle.arrivals.specs.Arrivals.{oldestMarks, enteredOf, arrivedOf}
-use Rattle.receiver_commands.specs.Commands.{effectOf, enablingOf}
-use Rattle.receiver_status.specs.Status.{shownMarks}
-use Rattle.receiver.specs.Receiver.{oldestRead, readOf, fedOf}
-use Rattle.sending.specs.Sending.{begunOf, bitOfPulse, sentOnOf, heldHigh}
-use Rattle.transmitter.specs.Commands.{writtenOf, breakEnded, droppedOf, breakAsked}
-use Rattle.transmitter.specs.Transmitter.{afterInput}
-use Rattle.transmitter.specs.Frames as Frames
+use Rattle.timer_state.specs.Counting.{modeOf, isTimer}
+use Rattle.sampler_hunting.specs.Hunting.{waited}
 use Rattle.transmitter.specs.Frames.{free}
-use Rattle.dividers.specs.Divider.{dividedOf, sixteenthOf}
-use Rattle.dividers.specs.Rates.{periodOf}
-use Rattle.clocks.specs.Channel.{restartedOnChange, tickedOf, sideOf, transmitter1x}
-use Rattle.timer.specs.Timer.{tickedBy, edgedBy, stoppedOf, modeChanged}
-use Rattle.bytes.specs.Bytes.{hasBit, weightOf, byteOf}
-use Rattle.inputs.specs.Inputs.{movedOf, pinsOfA, pinsOfB}
-use Rattle.side.specs.Side.{freshSide, modeRegister, modeNotModelled, modeWritten, csrWritten, setChanged, bufferWritten}
-use Rattle.side_clocks.specs.Clocking.{transmitterPulsed, lineOf, sideClocked}
-use Rattle.shown.specs.Shown.{receivedOf, shownOf}
-use Rattle.front.specs.Front.{frontAt}
-use Rattle.front_clocks.specs.Clocking.{countedOf, clockedWith, levelsMoved}
-use Rattle.writes.specs.Writes.{sideWritten, acrWritten, sharedWritten, registerWritten}
-use Rattle.reads.specs.Reads.{sideRead, sharedRead, registerRead, frontData}
-use Rattle.events.specs.Refusals.{registerAbove15, forbiddenRead, forbiddenCommand}
-use Rattle.front_events.specs.FrontEvents.{frontStepped}
-use Rattle.front_events.specs.NotModelled.{writeNotModelled, settingNotModelled}
-use Rattle.answers.specs.Answers.{assertedOf, timerLevel, linesOf, registerData, eventData}
-use Rattle.device.specs.Device.{freshDevice}
-use Rattle.refusals.specs.Refusals.{acknowledgedUnasserted, firstOf}
-use Rattle.duart.specs.Duart.{numberOf, refusalLines, stepOf}
-use Rattle.arrivals.specs.Arrivals as inArrivals
-use Rattle.timer.specs.Timer as inTimer
-use Rattle.sending.specs.Sending as inSending
-use Rattle.duart.specs.Duart as inDuart
-use Rattle.clocks.specs.Channel as inClocks
-use Rattle.front_clocks.specs.Clocking as inFrontClocks
-use Rattle.chip.specs.Alone.{handedAfter}
-use Rattle.chip.specs.Sound.{after}
-use Rattle.demands.specs.Chip.{chipOf, over, andThen, shows, statusBit}
+use Rattle.bytes.specs.Bytes.{hasBit}
+use Rattle.demands.specs.Chip.{andThen, shows, statusBit}
 use Rattle.demands.specs.Chip.Channel.{A}
-use Rattle.demands.specs.Told.{levelsAfter, programmed, programmedThen}
-use Rattle.demands.specs.Clocks as inDemands
-use Rattle.demands.specs.Clocks.{clocksOf, pulsedAfter}
+use Rattle.demands.specs.Told.{levelsAfter, programmed}
+use Rattle.demands.specs.Clocks.{pulsedAfter}
 use Rattle.demands.specs.Registers.{acrAfter}
 use Rattle.demands.specs.Counter.{countShown}
 use Rattle.demands.specs.Counted.{oneAfter, timerThen, timerFrom, timerAfter}
 use Rattle.demands.specs.Pulses.{clocks, codeAfter, sentSince, sentAfter}
 use Rattle.demands.specs.Sending.{inputsAt, inputsFrom, senderAfter}
-use Rattle.demands_met.proofs.Examples.{c, ticks, coded}
+use Rattle.demands.proofs.Laws.Looks.{chip}
+use Rattle.demands_met.proofs.Examples.{ticks, coded}
+use Rattle.demands.proofs.Computing.{computing}
 
 -- ---- the events ----
 
@@ -100,12 +54,12 @@ held = Write 0 19 ∷ Write 0 23 ∷ Write 1 255 ∷ Write 2 4 ∷ Write 3 85 �
 
 pub record Left : Type 0 where
   -- the bit is set, and stays: at a start, and at a write of ACR to another mode
-  pub set : hasBit (shows c 255 rung 5) 3 ≡ true
-  pub starts : hasBit (shows c 255 (andThen rung (Read 14)) 5) 3 ≡ true
-  pub changes : hasBit (shows c 255 (andThen rung (Write 4 96)) 5) 3 ≡ true
+  pub set : hasBit (shows chip 255 rung 5) 3 ≡ true
+  pub starts : hasBit (shows chip 255 (andThen rung (Read 14)) 5) 3 ≡ true
+  pub changes : hasBit (shows chip 255 (andThen rung (Write 4 96)) 5) 3 ≡ true
   -- a write of ACR that leaves the mode, and of a preload: the count of 0 stays
   pub same : eqb (modeOf (acrAfter rung)) (modeOf 176) ≡ true
-  pub kept : (countShown c 255 (andThen rung (Write 4 176)) ≡ 0) × (countShown c 255 (andThen rung (Write 7 5)) ≡ 0)
+  pub kept : (countShown chip 255 (andThen rung (Write 4 176)) ≡ 0) × (countShown chip 255 (andThen rung (Write 7 5)) ≡ 0)
 
 -- ---- Pulses, Ones ----
 
@@ -134,12 +88,12 @@ pub record Waited : Type 0 where
   pub chosen : hasBit (programmed A held .mr2) 4 ≡ true
   pub high : hasBit (levelsAfter 255 (andThen held falling)) 0 ≡ true
   pub pulse : (clocks falling ≡ true) × (pulsedAfter transmits A 255 held falling ≡ true)
-  pub stays : (statusBit c 255 A held 2 ≡ false) × (statusBit c 255 A (andThen held falling) 2 ≡ false)
+  pub stays : (statusBit chip 255 A held 2 ≡ false) × (statusBit chip 255 A (andThen held falling) 2 ≡ false)
   -- and low: the transmitter is idle and enabled, and what is held goes
   pub low : hasBit (levelsAfter 255 (andThen held fallingClear)) 0 ≡ false
   pub clear : pulsedAfter transmits A 255 held fallingClear ≡ true
   pub idle : (free (senderAfter 255 A held) ≡ true) × (programmed A held .transmits ≡ true)
-  pub goes : statusBit c 255 A (andThen held fallingClear) 2 ≡ true
+  pub goes : statusBit chip 255 A (andThen held fallingClear) 2 ≡ true
 
 -- ---- by computing ----
 
@@ -150,7 +104,7 @@ pub record MoreExamples : Type 0 where
   pub waited : Waited
 
 pub more-examples : MoreExamples
-unfolding bitsOf valueOf oddOnes formatOf parityBitOf parityBits pick stopLengthOf rowOf stopBitsOf beforeStop bitsBeforeStopOf spread levels frame frameLengthOf frameBitsOf levelOf dataWidthOf samplesOf withSample parityWrongOf characterOf gapOf afterStop lowAt hunted lookedAgain followed waited finished sampled assembled sampleOf heldOf putOf withoutWaitingOf tookOf oldestMarks inArrivals.startedOf inTimer.startedOf enteredOf arrivedOf inArrivals.pulsedOf inSending.pulsedOf effectOf enablingOf shownMarks oldestRead readOf fedOf inSending.takenOf inDuart.takenOf begunOf bitOfPulse sentOnOf heldHigh writtenOf breakEnded droppedOf breakAsked afterInput dividedOf sixteenthOf periodOf restartedOnChange tickedOf sideOf transmitter1x inClocks.clockedOf inFrontClocks.clockedOf counterPulsed timerPulsed pulsedBy tickedBy edgedBy stoppedOf modeChanged hasBit weightOf byteOf movedOf pinsOfA pinsOfB drivenBy drivenOp3 opLevels freshSide modeRegister modeNotModelled modeWritten csrWritten setChanged bufferWritten transmitterPulsed lineOf sideClocked transmitterEffect receiverEffect transmitterEnabling receiverEnabling sideCommanded commandFeed receivedOf shownOf frontAt countedOf clockedWith levelsMoved sideWritten acrWritten sharedWritten registerWritten sideRead sharedRead registerRead frontData registerAbove15 forbiddenRead forbiddenCommand frontStepped writeNotModelled settingNotModelled assertedOf timerLevel linesOf registerData eventData freshDevice acknowledgedUnasserted firstOf numberOf refusalLines stepOf after chipOf over handedAfter programmedThen clocksOf inDemands.pulsedBy timerThen timerFrom sentSince oneAfter inputsAt inputsFrom Frames.after
+unfolding computing timerThen timerFrom sentSince oneAfter inputsAt inputsFrom
 more-examples =
     record {
       left = record { set = refl; starts = refl; changes = refl; same = refl; kept = (refl, refl) };

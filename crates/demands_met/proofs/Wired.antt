@@ -7,70 +7,31 @@ use mathlib.Core.Bool.{Bool, true}
 use mathlib.Core.List.{List, [], _∷_, _++_}
 use lib.ListN.{length, replicate, take}
 use Rattle.character.specs.Character.{clean}
-use Rattle.sampler.specs.Lines.{at16, hears}
-use Rattle.arrivals.specs.declared.arrivals.Receiver.{Receiver}
-use Rattle.arrivals.specs.Arrivals.{freshReceiver, oldestMarks, enteredOf, arrivedOf}
+use Rattle.sampler.specs.Lines.{at16}
+use Rattle.receiver_state.specs.declared.arrivals.Receiver.{Receiver}
+use Rattle.receiver_state.specs.Arrivals.{freshReceiver}
 use Rattle.receiver.specs.Delivery as Receivers
 use Rattle.receiver.specs.Delivery.{linesOver}
-use Rattle.transmitter.specs.Frames as Transmitters
 use Rattle.clocks.specs.Pulses.Side.{transmits}
 use Rattle.front.specs.declared.front.Front.{Front}
-use Rattle.format.specs.Digits.{bit, bitsOf, valueOf, oddOnes}
+use Rattle.format.specs.Digits.{bit}
 use Rattle.events.specs.declared.events.Event.{Event}
 use Rattle.events.specs.declared.events.Event.the-variants.{Read, Write, Pins, Tick}
-use Rattle.device.specs.declared.device.Device.{Device}
+use Rattle.chip_device.specs.declared.device.Device.{Device}
 use Rattle.format.specs.Format.{formatOf}
-use Rattle.format.specs.Parity.{parityBitOf, parityBits}
 use Rattle.format.specs.Pick.{pick}
-use Rattle.format.specs.Stop.{stopLengthOf, rowOf, stopBitsOf}
-use Rattle.frame.specs.Levels.{beforeStop, bitsBeforeStopOf, spread, levels, frame, frameLengthOf, frameBitsOf, levelOf}
-use Rattle.assembly.specs.Assembly.{dataWidthOf, samplesOf, withSample, parityWrongOf, characterOf}
-use Rattle.assembly.specs.State.{gapOf, afterStop}
-use Rattle.hunting.specs.Hunting.{lowAt, hunted, lookedAgain, followed, waited}
-use Rattle.sampler.specs.Sampler.{finished, sampled, assembled, sampleOf}
-use Rattle.queue.specs.Queue.{heldOf, putOf, withoutWaitingOf, tookOf}
-use Rattle.receiver_commands.specs.Commands.{effectOf, enablingOf}
-use Rattle.receiver_status.specs.Status.{shownMarks}
-use Rattle.receiver.specs.Receiver.{oldestRead, readOf, fedOf}
-use Rattle.sending.specs.Sending.{begunOf, bitOfPulse, sentOnOf, heldHigh}
-use Rattle.transmitter.specs.Commands.{writtenOf, breakEnded, droppedOf, breakAsked}
-use Rattle.transmitter.specs.Transmitter.{afterInput}
-use Rattle.dividers.specs.Divider.{dividedOf, sixteenthOf}
-use Rattle.dividers.specs.Rates.{periodOf}
-use Rattle.clocks.specs.Channel.{restartedOnChange, tickedOf, sideOf, transmitter1x}
-use Rattle.counting.specs.Counting.{counterPulsed, timerPulsed, pulsedBy}
-use Rattle.timer.specs.Timer.{tickedBy, edgedBy, stoppedOf, modeChanged}
-use Rattle.bytes.specs.Bytes.{hasBit, weightOf, byteOf}
-use Rattle.inputs.specs.Inputs.{movedOf, pinsOfA, pinsOfB}
-use Rattle.outputs.specs.Outputs.{drivenBy, drivenOp3, opLevels}
-use Rattle.side.specs.Side.{freshSide, modeRegister, modeNotModelled, modeWritten, csrWritten, setChanged, bufferWritten}
-use Rattle.side_clocks.specs.Clocking.{transmitterPulsed, lineOf, sideClocked}
-use Rattle.commands.specs.Commands.{transmitterEffect, receiverEffect, transmitterEnabling, receiverEnabling, sideCommanded, commandFeed}
-use Rattle.shown.specs.Shown.{receivedOf, shownOf}
+use Rattle.frame.specs.Levels.{frame}
+use Rattle.queue.specs.Queue.{heldOf}
+use Rattle.receiver.specs.Receiver.{fedOf}
+use Rattle.clocks.specs.Channel.{sideOf}
+use Rattle.timer_state.specs.Counting.{pulsedBy}
 use Rattle.front.specs.Front.{frontAt}
-use Rattle.front_clocks.specs.Clocking.{countedOf, clockedWith, levelsMoved}
-use Rattle.writes.specs.Writes.{sideWritten, acrWritten, sharedWritten, registerWritten}
-use Rattle.reads.specs.Reads.{sideRead, sharedRead, registerRead, frontData}
-use Rattle.events.specs.Refusals.{registerAbove15, forbiddenRead, forbiddenCommand}
-use Rattle.front_events.specs.FrontEvents.{frontStepped}
-use Rattle.front_events.specs.NotModelled.{writeNotModelled, settingNotModelled}
-use Rattle.answers.specs.Answers.{assertedOf, timerLevel, linesOf, registerData, eventData}
-use Rattle.device.specs.Device.{freshDevice}
-use Rattle.refusals.specs.Refusals.{acknowledgedUnasserted, firstOf}
-use Rattle.duart.specs.Duart.{numberOf, refusalLines, stepOf}
-use Rattle.arrivals.specs.Arrivals as inArrivals
-use Rattle.timer.specs.Timer as inTimer
-use Rattle.sending.specs.Sending as inSending
-use Rattle.duart.specs.Duart as inDuart
-use Rattle.clocks.specs.Channel as inClocks
-use Rattle.front_clocks.specs.Clocking as inFrontClocks
-use Rattle.chip.specs.Alone.{handedAfter}
-use Rattle.chip.specs.Sound.{after}
-use Rattle.demands.specs.Chip.{Channel, chipOf, andThen, over, statusBit, allOf}
+use Rattle.chip_step.specs.Chip.{stepOf}
+use Rattle.chip_laws.specs.Sound.{after}
+use Rattle.demands.specs.Chip.{Channel, andThen, statusBit, eachOf}
 use Rattle.demands.specs.Chip.Channel.{A, B}
-use Rattle.demands.specs.Told.{programmedThen}
 use Rattle.demands.specs.Clocks as inDemands
-use Rattle.demands.specs.Clocks.{frontThen, frontAfter, clocksOf, pulsedAfter}
+use Rattle.demands.specs.Clocks.{frontThen, frontAfter, pulsedAfter}
 use Rattle.demands.specs.Cases.{heard, listening, arrives}
 use Rattle.demands.specs.Delivery.{linesAt, linesFrom, fateOf, ledgerFrom, held}
 use Rattle.demands.specs.Sending.{standing, inputsAt, inputsFrom, senderAfter, Starts, startedFrame, keepsSending, pulsesFrom, sentFrom}
@@ -82,7 +43,8 @@ use Rattle.demands.proofs.Laws.Told.{over-then}
 use Rattle.demands.proofs.Laws.Senders.{sender-told, txd-shown}
 use Rattle.demands.proofs.Delivery.{receiver-after}
 use Rattle.demands.proofs.ReadBack.{reads-back}
-use Rattle.demands_met.proofs.Examples.{c}
+use Rattle.demands.proofs.Laws.Looks.{chip}
+use Rattle.demands.proofs.Computing.{computing}
 
 -- ---- the wire ----
 
@@ -147,24 +109,24 @@ before k es = andThen (until k es) (k .at true) ++ k .tail true
 
 pub record Hears (k : Clock) (es : List Event) : Type 0 where
   pub starts : Starts 255 A (until k es) (k .at true)
-  pub keeps : allOf (keepsSending A) (rest k) ≡ true
+  pub keeps : eachOf (keepsSending A) (rest k) ≡ true
   pub whole : pulsesFrom 255 A (until k es) (k .at true ∷ rest k) ≡ length (startedFrame 255 A (until k es) (k .at true))
   pub sixteen : standing 255 A (until k es) (k .at true) .sixteen ≡ true
   pub formats : formatAfter A (until k es) ≡ formatAfter B (before k es)
-  pub listens : Listens c 255 B (before k es)
-  pub undisturbed : allOf (undisturbed B) (along k levelsOf85) ≡ true
+  pub listens : Listens chip 255 B (before k es)
+  pub undisturbed : eachOf (undisturbed B) (along k levelsOf85) ≡ true
   -- what A sends, and what B's pulses find; on RxDB are TxDA's own levels
-  pub sent : sentFrom c 255 A (until k es) (k .at true ∷ rest k) ≡ levelsOf85
+  pub sent : sentFrom chip 255 A (until k es) (k .at true ∷ rest k) ≡ levelsOf85
   pub found : linesFrom B 255 (before k es) (along k levelsOf85) ≡ carried (at16 (formatAfter B (before k es))) levelsOf85
   pub wire : wired k 161 (runAt 255 (ready k es)) ≡ along k (true ∷ levelsOf85)
   -- what was written, and what is held then
   pub holding : senderAfter 255 A (until k es) .holding ≡ 85
-  pub held : held c 255 B (before k es ++ along k levelsOf85) ≡ clean 85 ∷ []
+  pub held : held chip 255 B (before k es ++ along k levelsOf85) ≡ clean 85 ∷ []
 
 -- so the statement speaks of it
-pub read-back : (k : Clock) (es : List Event) → Hears k es → ReadBack c 255 B (before k es) (along k levelsOf85) 85
+pub read-back : (k : Clock) (es : List Event) → Hears k es → ReadBack chip 255 B (before k es) (along k levelsOf85) 85
 read-back k es h =
-    subst (λ (x : ℕ). ReadBack c 255 B (before k es) (along k levelsOf85) x) (h .holding)
+    subst (λ (x : ℕ). ReadBack chip 255 B (before k es) (along k levelsOf85) x) (h .holding)
     (reads-back .sent 255 255 A B (until k es) (rest k) (before k es) (along k levelsOf85) (k .at true) (h .starts) (h .keeps) (h .whole) (h .sixteen)
     (h .formats) (h .listens) (h .undisturbed) (h .found ∙ ap (carried (at16 (formatAfter B (before k es)))) (sym (h .sent))))
 
@@ -185,7 +147,7 @@ unfolding pulsesFrom pulsesOver
 pulses-over pins ch before [] = refl
 pulses-over pins ch before (e ∷ es) = rw (pulses-over pins ch (andThen before e) es, over-then frontThen (frontAt pins) before e)
 
-sent-over : (pins : ℕ) (ch : Channel) (before es : List Event) → sentFrom c pins ch before es ≡ sentOver ch (frontAfter pins before) es
+sent-over : (pins : ℕ) (ch : Channel) (before es : List Event) → sentFrom chip pins ch before es ≡ sentOver ch (frontAfter pins before) es
 unfolding sentFrom sentOver
 sent-over pins ch before [] = refl
 sent-over pins ch before (e ∷ es) =
@@ -197,7 +159,7 @@ sent-over pins ch before (e ∷ es) =
     )
 
 held-by : (es : List Event) → heldOf (Receivers.after fedOf freshReceiver (feedsFrom B (frontAt 255) es) .queue) ≡ clean 85 ∷ []
-    → held c 255 B es ≡ clean 85 ∷ []
+    → held chip 255 B es ≡ clean 85 ∷ []
 held-by es h = held-queue 255 B es ∙ ap (λ (r : Receiver). heldOf (r .queue)) (receiver-after B 255 es) ∙ h
 
 -- ---- Sends on a divider, and ReadsBack of a frame that no transmitter here sent ----
@@ -207,15 +169,15 @@ sends = Write 0 19 ∷ Write 0 7 ∷ Write 1 204 ∷ Write 2 4 ∷ Write 3 85 �
 
 pub record Frames : Type 0 where
   pub starts : Starts 255 A sends Tick
-  pub keeps : allOf (keepsSending A) (replicate 959 Tick) ≡ true
+  pub keeps : eachOf (keepsSending A) (replicate 959 Tick) ≡ true
   -- 160 pulses, one in 6 ticks from the start on; the next one comes when the last level has stood as long, and nothing is held for it
   pub whole : length (startedFrame 255 A sends Tick) ≡ 160
   pub pulses : pulsesFrom 255 A sends (replicate 960 Tick) ≡ 160
   pub last : pulsesFrom 255 A (andThen sends Tick) (replicate 959 Tick) ≡ 159
   pub next : pulsedAfter transmits A 255 (andThen sends Tick ++ replicate 959 Tick) Tick ≡ true
-  pub empty : statusBit c 255 A (andThen sends Tick ++ replicate 959 Tick) 2 ≡ true
-  pub listens : Listens c 255 A (listening true)
-  pub undisturbed : allOf (undisturbed A) (arrives true 85) ≡ true
+  pub empty : statusBit chip 255 A (andThen sends Tick ++ replicate 959 Tick) 2 ≡ true
+  pub listens : Listens chip 255 A (listening true)
+  pub undisturbed : eachOf (undisturbed A) (arrives true 85) ≡ true
   pub found : linesFrom A 255 (listening true) (arrives true 85)
       ≡ carried (at16 (formatAfter A (listening true))) (frame true (formatAfter A (listening true)) 7 85)
 
@@ -228,7 +190,7 @@ pub record Wired : Type 0 where
   pub frames : Frames
 
 pub wired-examples : Wired
-unfolding bitsOf valueOf oddOnes formatOf parityBitOf parityBits pick stopLengthOf rowOf stopBitsOf beforeStop bitsBeforeStopOf spread levels frame frameLengthOf frameBitsOf levelOf dataWidthOf samplesOf withSample parityWrongOf characterOf gapOf afterStop lowAt hunted lookedAgain followed waited finished sampled assembled sampleOf heldOf putOf withoutWaitingOf tookOf oldestMarks inArrivals.startedOf inTimer.startedOf enteredOf arrivedOf inArrivals.pulsedOf inSending.pulsedOf effectOf enablingOf shownMarks oldestRead readOf fedOf inSending.takenOf inDuart.takenOf begunOf bitOfPulse sentOnOf heldHigh writtenOf breakEnded droppedOf breakAsked afterInput dividedOf sixteenthOf periodOf restartedOnChange tickedOf sideOf transmitter1x inClocks.clockedOf inFrontClocks.clockedOf counterPulsed timerPulsed pulsedBy tickedBy edgedBy stoppedOf modeChanged hasBit weightOf byteOf movedOf pinsOfA pinsOfB drivenBy drivenOp3 opLevels freshSide modeRegister modeNotModelled modeWritten csrWritten setChanged bufferWritten transmitterPulsed lineOf sideClocked transmitterEffect receiverEffect transmitterEnabling receiverEnabling sideCommanded commandFeed receivedOf shownOf frontAt countedOf clockedWith levelsMoved sideWritten acrWritten sharedWritten registerWritten sideRead sharedRead registerRead frontData registerAbove15 forbiddenRead forbiddenCommand frontStepped writeNotModelled settingNotModelled assertedOf timerLevel linesOf registerData eventData freshDevice acknowledgedUnasserted firstOf numberOf refusalLines stepOf after chipOf over handedAfter programmedThen clocksOf inDemands.pulsedBy heard hears Receivers.after linesOver feedsFrom linesAt linesFrom fateOf ledgerFrom Transmitters.after inputsAt inputsFrom pulsesOver sentOver wired
+unfolding computing heard linesOver feedsFrom linesAt linesFrom fateOf ledgerFrom inputsAt inputsFrom pulsesOver sentOver wired
 wired-examples =
     record {
       overDivider = record {

@@ -1,3 +1,3 @@
--- The proofs of the whole chip: the laws that its step goes by, and the wrong answers that are shut out.
-pub mod Laws
+-- The proofs of the board: the machine values that the thin step moves, the wrong answers that are shut out, and a file a function.
+pub mod Machine
 mod ShutOut

@@ -1,2 +1,2 @@
--- What a reader must believe of the whole chip: one event, one answer.
+-- What a reader must believe of the board: what of an answer is seen.
 pub mod Duart

@@ -1,105 +1,79 @@
-// One event, one answer.
-use answers::Lines;
-use answers::event_data;
-use answers::no_lines;
-use device::Device;
-use device::device_lines;
-use device::is_sound;
-use events::Event;
-use front_events::step_front;
-use receiver::feed_receiver;
-use refusals::first_refusal;
-use shown::show_channel;
+// "the board keeps one device and lends it to a thin step that alters it by one event"
+use chip_device::Device;
+use chip_device::fresh;
+use chip_device::is_sound;
+use chip_fast::swift_step;
+use chip_step::Answer;
+use records::EventRecord;
+use records::Seen;
+use records::event_of;
+use records::seen_of;
+use request::FrameAnswer;
+use request::request_frame;
 ghost use mathlib.Core.Path.{_≡_};
-ghost use Rattle.duart.specs.Duart.{takenOf, refusalLines, refusedOf, acceptedOf, stepOf};
+ghost use lib.ListN.{length};
+ghost use Rattle.chip_device.specs.Device.{freshDevice, isSoundOf};
+ghost use Rattle.chip_step.specs.Chip.{stepOf};
+ghost use Rattle.records.specs.Records.{eventOf};
+ghost use Rattle.request.specs.Request.{requestOf, spaceAfter};
+ghost use Rattle.duart.specs.Duart.{seenIn};
 
-// "The answer has the number, the data byte (0 where none is read), IRQ (1 when asserted), TxDA, TxDB, the OP0-OP7
-// levels and the new state."
-#[repr(C)]
-pub struct Answer {
-    pub number: u8,
-    pub byte: u8,
-    pub lines: Lines,
-    pub state: Device,
-}
-
-// The new state, before it is looked at, and the data byte.
-pub struct Taken {
-    pub state: Device,
-    pub byte: u8,
-}
-
-// What an event does where no row refuses it: the front is stepped, and each receiver takes what it is handed.
-fn take_event(device: Device, event: Event) -> Taken
-    ensures { λ r. ⌜ r ≡ takenOf device event ⌝ }
+// What the step by value answers to a record.
+fn step_record(device: Device, event: EventRecord) -> Answer
+    ensures { λ r. ⌜ r ≡ stepOf device (eventOf event) ⌝ }
 {
-    let handed = step_front(device.front, event);
-    let front = handed.front;
-    let feed_a = handed.a;
-    let feed_b = handed.b;
-    let a = feed_receiver(device.a, feed_a);
-    let b = feed_receiver(device.b, feed_b);
-    let receiver_a = a.receiver;
-    let receiver_b = b.receiver;
-    let shown_a = show_channel(device.front.a, device.a);
-    let shown_b = show_channel(device.front.b, device.b);
-    let byte = event_data(device.front, shown_a, shown_b, a.byte, b.byte, event);
-    Taken {
-        state: Device {
-            front: front,
-            a: receiver_a,
-            b: receiver_b,
-        },
-        byte: byte,
-    }
+    swift_step(device, event_of(event))
 }
 
-// "lines as that state drives them (for 1, all lines 0)"
-fn refusal_lines(device: Device, number: u8) -> Lines
-    ensures { λ r. ⌜ r ≡ refusalLines device number ⌝ }
+// A walk moves whole values only, so the parts of an answer are taken here.
+fn state_in(answer: Answer) -> Device
+    ensures { λ r. ⌜ r ≡ answer .state ⌝ }
 {
-    if number == 1 {
-        return no_lines();
-    }
-    device_lines(device)
+    answer.state
 }
 
-// "Refused: data 0, the state as given"
-fn refuse(device: Device, number: u8) -> Answer
-    ensures { λ r. ⌜ r ≡ refusedOf device number ⌝ }
+fn seen_in(answer: Answer) -> Seen
+    ensures { λ r. ⌜ r ≡ seenIn answer ⌝ }
 {
-    let lines = refusal_lines(device, number);
-    Answer {
-        number: number,
-        byte: 0,
-        lines: lines,
-        state: device,
-    }
+    let lines = answer.lines;
+    seen_of(answer.number, answer.byte, lines)
 }
 
-fn accept(taken: Taken) -> Answer
-    ensures { λ r. ⌜ r ≡ acceptedOf taken ⌝ }
+// "A fresh device is the state after a chip reset with all pins high."
+#[no_mangle]
+pub extern "C" fn duart_fresh() -> Device
+    ensures { λ r. ⌜ r ≡ freshDevice ⌝ }
 {
-    let state = taken.state;
-    Answer {
-        number: 0,
-        byte: taken.byte,
-        lines: device_lines(state),
-        state: state,
-    }
+    fresh()
 }
 
-// The first row that applies answers; 7, "the new state would be unsound", is looked at last.
-pub fn step(device: Device, event: Event) -> Answer
-    ensures { λ r. ⌜ r ≡ stepOf device event ⌝ }
+// "Device lent by &mut to one thin step: takes it apart, calls the by-value step, stores the new state back."
+#[no_mangle]
+pub extern "C" fn duart_step(device: &mut Device, event: EventRecord) -> Seen
+    ensures { λ r. ⌜ (r ≡ seenIn (stepOf (now (device .entry)) (eventOf event)))
+        × (now (device .exit) ≡ stepOf (now (device .entry)) (eventOf event) .state) ⌝ }
 {
-    let first = first_refusal(device, event);
-    if first == 0 {
-        let taken = take_event(device, event);
-        if is_sound(taken.state) {
-            return accept(taken);
-        }
-        return refuse(device, 7);
-    }
-    refuse(device, first)
+    let given = *device;
+    let answer = step_record(given, event);
+    let state = state_in(answer);
+    *device = state;
+    seen_in(answer)
+}
+
+// "A separate request writes a frame's levels, one byte 0 or 1 per 16X pulse, at most 192, from MR1, MR2 and a byte;
+// space past it stays. It answers the number and the length, 0 if refused."
+#[no_mangle]
+pub extern "C" fn duart_frame(mr1: u8, mr2: u8, byte: u8, space: &mut [u8]) -> FrameAnswer
+    ensures answer { λ r. ⌜ r ≡ requestOf mr1 mr2 (length (now (space .entry))) ⌝ }
+    ensures space { λ _. ⌜ now (space .exit) ≡ spaceAfter mr1 mr2 byte (now (space .entry)) ⌝ }
+{
+    request_frame(mr1, mr2, byte, space)
+}
+
+// docs/SOUND.md lists the ranges.
+#[no_mangle]
+pub extern "C" fn duart_sound(device: Device) -> bool
+    ensures { λ r. ⌜ r ≡ isSoundOf device ⌝ }
+{
+    is_sound(device)
 }

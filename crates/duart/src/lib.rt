@@ -1,6 +1,7 @@
-// The MC68681 by value: one event, one answer, which holds the new state. What is owed of the whole is stated in the
-// crate `chip`.
+// What a board maker links: the device lent to one thin step, and the names for C. include/duart.h declares them.
 mod duart;
 
-pub use duart::Answer;
-pub use duart::step;
+pub use duart::duart_frame;
+pub use duart::duart_fresh;
+pub use duart::duart_sound;
+pub use duart::duart_step;

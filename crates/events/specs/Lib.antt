@@ -1,2 +1,2 @@
--- What a reader must believe of the events: which of them rows 2 to 4 refuse.
-pub mod Refusals
+-- What a reader must believe of the events: the commands that the chip does not take.
+pub mod Command

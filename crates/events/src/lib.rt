@@ -1,10 +1,8 @@
-// The events, and document 01's rows 2 to 4, which hang on the event alone.
+// The events, and the commands that the chip does not take.
 //
-// One file a topic; specs/ has the definitions of the second under the same name.
+// One file a topic; specs/ has the definition of the second under the same name.
+mod command;
 mod events;
-mod refusals;
 
+pub use command::command_forbidden;
 pub use events::Event;
-pub use refusals::is_forbidden_command;
-pub use refusals::is_forbidden_read;
-pub use refusals::is_register_above_15;

@@ -9,6 +9,10 @@ abbrev pub bit : Bool → ℕ
 bit true = 1
 bit false = 0
 
+-- and as text: the character 1 or 0
+unfoldable pub digitOf : Bool → ℕ
+digitOf level = 48 + bit level
+
 -- the lowest `w` bits of a number, lowest first
 unfoldable pub bitsOf : ℕ → ℕ → List Bool
 bitsOf zero x = []

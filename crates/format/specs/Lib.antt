@@ -1,4 +1,5 @@
--- What a reader must believe of a format: a file a topic, under the names of src/, over two that all of them use, `Pick` and `Digits`.
+-- What a reader must believe of a format: a file a topic, under the names of src/, over two that all of them use,
+-- `Pick` and `Digits`.
 pub mod Pick
 pub mod Digits
 pub mod Format

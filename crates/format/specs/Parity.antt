@@ -15,8 +15,8 @@ dataBits f x = bitsOf (f .width .0) x
 abbrev pub hasParityOf : Format → Bool
 hasParityOf f = ltb (f .parity) 2
 
--- With: the number of ones among the data bits in use and this bit is even, or odd where odd is chosen. Forced: low, or high.
--- Where there is none, `hasParityOf` says so; the answer is then that of forced.
+-- With: the number of ones among the data bits in use and this bit is even, or odd where odd is chosen. Forced: low, or
+-- high. Where there is none, `hasParityOf` says so; the answer is then that of forced.
 unfoldable pub parityBitOf : Format → ℕ → Bool
 parityBitOf f x =
     pick (eqb (f .parity) 0)

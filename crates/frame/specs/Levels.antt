@@ -1,4 +1,5 @@
--- A frame: its bits, its levels pulse by pulse, its length. One definition for every width and both clocks. Assumes nothing.
+-- A frame: its bits, its levels pulse by pulse, its length. One definition for every width and both clocks. Assumes
+-- nothing.
 use Prim.Native.Nat.{ℕ, _+_, _-_, _*_, _/_, _%_, _^_}
 use mathlib.Core.Bool.{Bool, true, false}
 use mathlib.Core.List.{List, [], _∷_, _++_}

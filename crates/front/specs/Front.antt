@@ -3,18 +3,18 @@ use Prim.Native.Nat.{ℕ}
 use Rattle.inputs.specs.declared.inputs.Inputs.{Inputs}
 use Rattle.outputs.specs.declared.outputs.Outputs.{Outputs}
 use Rattle.outputs.specs.Outputs.{freshOutputs}
-use Rattle.receiver.specs.declared.receiver.Feed.{Feed}
-use Rattle.receiver.specs.declared.receiver.Feed.the-variants.{Nothing}
-use Rattle.side.specs.declared.side.Side.{Side}
-use Rattle.side.specs.Side.{freshSide}
-use Rattle.counting.specs.declared.counting.Timer.{Timer}
-use Rattle.counting.specs.Counting.{freshTimer}
+use Rattle.feed.specs.declared.feed.Feed.{Feed}
+use Rattle.feed.specs.declared.feed.Feed.the-variants.{Nothing}
+use Rattle.front_side.specs.declared.side.Side.{Side}
+use Rattle.front_side.specs.Side.{freshSide}
+use Rattle.timer_state.specs.declared.counting.Timer.{Timer}
+use Rattle.timer_state.specs.Counting.{freshTimer}
 use Rattle.front.specs.declared.front.Front.{Front}
 use Rattle.front.specs.declared.front.Handed.{Handed}
 use Rattle.front.specs.declared.front.SideHanded.{SideHanded}
 
--- "Chip reset: IVR 15, every other register, preload, count, phase, flag, .. and output bit 0, .. Pin levels stay.": the front after one at
--- these levels
+-- "Chip reset: IVR 15, every other register, preload, count, phase, flag, .. and output bit 0, .. Pin levels stay.":
+-- the front after one at these levels
 unfoldable pub frontAt : ℕ → Front
 frontAt levels =
     record {
@@ -33,7 +33,16 @@ frontAt levels =
 -- other sides and another counter/timer
 abbrev pub withSides : Front → Side → Side → Timer → Front
 withSides f a b t =
-    record { a = a; b = b; timer = t; inputs = f .inputs; outputs = f .outputs; acr = f .acr; imr = f .imr; ivr = f .ivr }
+    record {
+      a = a;
+      b = b;
+      timer = t;
+      inputs = f .inputs;
+      outputs = f .outputs;
+      acr = f .acr;
+      imr = f .imr;
+      ivr = f .ivr;
+    }
 
 -- another counter/timer
 abbrev pub withTimer : Front → Timer → Front
@@ -41,12 +50,22 @@ withTimer f t = withSides f (f .a) (f .b) t
 
 -- other pins
 abbrev pub withPorts : Front → Inputs → Outputs → Front
-withPorts f i o = record { a = f .a; b = f .b; timer = f .timer; inputs = i; outputs = o; acr = f .acr; imr = f .imr; ivr = f .ivr }
+withPorts f i o =
+    record { a = f .a; b = f .b; timer = f .timer; inputs = i; outputs = o; acr = f .acr; imr = f .imr; ivr = f .ivr }
 
 -- other registers that both channels share
 abbrev pub withRegisters : Front → ℕ → ℕ → ℕ → Front
 withRegisters f acr imr ivr =
-    record { a = f .a; b = f .b; timer = f .timer; inputs = f .inputs; outputs = f .outputs; acr = acr; imr = imr; ivr = ivr }
+    record {
+      a = f .a;
+      b = f .b;
+      timer = f .timer;
+      inputs = f .inputs;
+      outputs = f .outputs;
+      acr = acr;
+      imr = imr;
+      ivr = ivr;
+    }
 
 -- ---- what an access hands to the receivers ----
 

@@ -1,12 +1,12 @@
 // The front, and what an event makes of it.
-use counting::Timer;
-use counting::fresh_timer;
+use feed::Feed;
+use front_side::Side;
+use front_side::fresh_side;
 use inputs::Inputs;
 use outputs::Outputs;
 use outputs::fresh_outputs;
-use receiver::Feed;
-use side::Side;
-use side::fresh_side;
+use timer_state::Timer;
+use timer_state::fresh_timer;
 ghost use mathlib.Core.Path.{_≡_};
 ghost use Rattle.front.specs.Front.{frontAt, sideHanded, handedNothing, handedA, handedB};
 

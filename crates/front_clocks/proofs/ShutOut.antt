@@ -7,13 +7,13 @@ use lib.Dec.{eqb}
 use Rattle.format.specs.Pick.{pick}
 use Rattle.dividers.specs.Divider.{dividedOf, sixteenthOf}
 use Rattle.clocks.specs.Channel as Channel
-use Rattle.counting.specs.Counting.{freshTimer, withCount, pulsedBy, timerPulsed}
+use Rattle.timer_state.specs.Counting.{freshTimer, withCount, pulsedBy, timerPulsed}
 use Rattle.timer.specs.Timer.{tickedBy}
 use Rattle.bytes.specs.Bytes.{hasBit}
 use Rattle.inputs.specs.Inputs.{pinsOfA, pinsOfB}
-use Rattle.side.specs.declared.side.Side.{Side}
-use Rattle.side.specs.Side.{freshSide, withClocks}
-use Rattle.side_clocks.specs.Clocking.{sideClocked}
+use Rattle.front_side.specs.declared.side.Side.{Side}
+use Rattle.front_side.specs.Side.{freshSide, withClocks}
+use Rattle.front_side_clocks.specs.Clocking.{sideClocked}
 use Rattle.front.specs.declared.front.Front.{Front}
 use Rattle.front.specs.Front.{frontAt, withSides, withRegisters}
 use Rattle.front_clocks.specs.Clocking.{countedOf, clockedWith, clockedOf}

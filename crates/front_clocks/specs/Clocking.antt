@@ -1,15 +1,16 @@
--- "Order in a tick or pin event: levels and flags; counter/timer from ticks or IP2; transmitter then receiver of A; the same of B; counter
--- from a 1X transmitter clock (every 16th 16X pulse since that phase restarted, or each 1X pulse)." Assumes nothing.
+-- "Order in a tick or pin event: levels and flags; counter/timer from ticks or IP2; transmitter then receiver of A; the
+-- same of B; counter from a 1X transmitter clock (every 16th 16X pulse since that phase restarted, or each 1X pulse)."
+-- Assumes nothing.
 use Prim.Native.Nat.{ℕ, _/_}
 use mathlib.Core.Bool.{Bool, true, false}
 use lib.Dec.{eqb}
 use Rattle.format.specs.Pick.{pick}
 use Rattle.inputs.specs.Inputs.{risesOf, movedOf, pinsOfA, pinsOfB}
-use Rattle.side_clocks.specs.declared.clocking.Clocking.{Clocking}
-use Rattle.side_clocks.specs.Clocking.{sideClocked}
-use Rattle.counting.specs.declared.counting.Counted.{Counted}
-use Rattle.counting.specs.declared.counting.Timer.{Timer}
-use Rattle.counting.specs.Counting.{modeOf}
+use Rattle.front_side_clocks.specs.declared.clocking.Clocking.{Clocking}
+use Rattle.front_side_clocks.specs.Clocking.{sideClocked}
+use Rattle.timer_state.specs.declared.counting.Counted.{Counted}
+use Rattle.timer_state.specs.declared.counting.Timer.{Timer}
+use Rattle.timer_state.specs.Counting.{modeOf}
 use Rattle.timer.specs.Timer.{tickedBy, edgedBy, transmittedBy}
 use Rattle.front.specs.declared.front.Front.{Front}
 use Rattle.front.specs.declared.front.Handed.{Handed}

@@ -1,19 +1,19 @@
 // "Order in a tick or pin event: levels and flags; counter/timer from ticks or IP2; transmitter then receiver
 // of A; the same of B; counter from a 1X transmitter clock".
-use counting::Counted;
-use counting::Timer;
-use counting::mode_of;
 use front::Front;
 use front::Handed;
+use front_side_clocks::Clocking;
+use front_side_clocks::clock_side;
 use inputs::move_pins;
 use inputs::pins_of_a;
 use inputs::pins_of_b;
 use inputs::rises;
-use side_clocks::Clocking;
-use side_clocks::clock_side;
 use timer::step_by_edge;
 use timer::step_by_tick;
 use timer::step_by_transmitter;
+use timer_state::Counted;
+use timer_state::Timer;
+use timer_state::mode_of;
 ghost use mathlib.Core.Path.{_≡_};
 ghost use Rattle.front_clocks.specs.Clocking.{countedOf, clockedWith, clockedOf, tickedOf, levelsMoved};
 

@@ -3,9 +3,9 @@ use Rattle.front.specs.declared.front.Front.{Front}
 use Rattle.front.specs.declared.front.Handed.{Handed}
 use Rattle.front_clocks.specs.Clocking.{tickedOf, levelsMoved}
 use Rattle.front.specs.Front.{frontAt, handedNothing}
-use Rattle.reads.specs.Reads.{registerRead}
-use Rattle.receiver.specs.declared.receiver.Feed.the-variants as Feeds
-use Rattle.writes.specs.Writes.{registerWritten}
+use Rattle.front_reads.specs.Reads.{registerRead}
+use Rattle.feed.specs.declared.feed.Feed.the-variants as Feeds
+use Rattle.front_writes.specs.Writes.{registerWritten}
 use Rattle.events.specs.declared.events.Event.{Event}
 use Rattle.events.specs.declared.events.Event.the-variants.{ChipReset, Read, Write, Acknowledge, Pins, Tick}
 

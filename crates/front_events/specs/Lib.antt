@@ -1,3 +1,2 @@
--- What a reader must believe of what an event makes of the front, and which of them row 5 refuses.
+-- What a reader must believe of what an event makes of the front.
 pub mod FrontEvents
-pub mod NotModelled

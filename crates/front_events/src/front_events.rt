@@ -1,14 +1,14 @@
 // What an event makes of the front, and hands to each receiver.
 use events::Event;
+use feed::Feed;
 use front::Front;
 use front::Handed;
 use front::front_at;
 use front::hand_nothing;
 use front_clocks::move_levels;
 use front_clocks::tick_front;
-use reads::read_register;
-use receiver::Feed;
-use writes::write_register;
+use front_reads::read_register;
+use front_writes::write_register;
 ghost use mathlib.Core.Path.{_≡_};
 ghost use Rattle.front_events.specs.FrontEvents.{frontReset, acknowledged, frontStepped};
 

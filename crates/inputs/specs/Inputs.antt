@@ -45,8 +45,8 @@ channelPins before after cts rxd receiver transmitter =
       falling = fallsOf before after transmitter;
     }
 
--- "CTS (if chosen; IP0 for A, IP1 for B)"; "6 RxDA, 7 RxDB"; "receiver on a rising edge (A IP4, B IP2), transmitter on a falling edge
--- (A IP3, B IP5)"
+-- "CTS (if chosen; IP0 for A, IP1 for B)"; "6 RxDA, 7 RxDB"; "receiver on a rising edge (A IP4, B IP2), transmitter on
+-- a falling edge (A IP3, B IP5)"
 unfoldable pub pinsOfA : ℕ → ℕ → ChannelPins
 pinsOfA before after = channelPins before after 0 6 4 3
 

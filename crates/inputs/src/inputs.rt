@@ -1,7 +1,8 @@
 // The input pins.
 use bytes::has_bit;
 ghost use mathlib.Core.Path.{_≡_};
-ghost use Rattle.inputs.specs.Inputs.{risesOf, fallsOf, movedOf, inputPort, changeRegister, changesCleared, hasChosenChange, channelPins, pinsOfA, pinsOfB};
+ghost use Rattle.inputs.specs.Inputs.{risesOf, fallsOf, movedOf, inputPort, changeRegister, changesCleared};
+ghost use Rattle.inputs.specs.Inputs.{hasChosenChange, channelPins, pinsOfA, pinsOfB};
 
 #[repr(C)]
 pub struct Inputs {

@@ -1,9 +1,9 @@
 // "The frame lister (program) sends standard input on A as in case 4, one line of ten mid-bit levels per byte, no header."
-use device::Device;
+use chip_device::Device;
 use libc::STDIN_FILENO;
 use libc::STDOUT_FILENO;
-use listing::list_byte;
-use listing::prepared;
+use lister_line::list_byte;
+use lister_line::prepared;
 
 // The device, and whether all was written so far.
 struct Run {

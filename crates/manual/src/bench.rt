@@ -1,8 +1,8 @@
 // The bench: the chip, the levels on its pins, and whether a wire joins each TxD to the RxD beside it.
 use bytes::has_bit;
-use device::fresh;
-use duart::Answer;
-use duart::step;
+use chip_device::fresh;
+use chip_step::Answer;
+use chip_step::step;
 use events::Event;
 
 pub struct Bench {

@@ -2,7 +2,8 @@
 use bytes::byte_of;
 use bytes::has_bit;
 ghost use mathlib.Core.Path.{_≡_};
-ghost use Rattle.outputs.specs.Outputs.{freshOutputs, bitsSet, bitsReset, outputsChosen, opcrNotModelled, drivenBy, drivenOp3, opLevels};
+ghost use Rattle.outputs.specs.Outputs.{freshOutputs, bitsSet, bitsReset, outputsChosen, opcrNotModelled};
+ghost use Rattle.outputs.specs.Outputs.{drivenBy, drivenOp3, opLevels};
 
 #[repr(C)]
 pub struct Outputs {

@@ -1,6 +1,7 @@
--- The queue of three and the waiting place. What is held is a list, the oldest first, of at most four: the first three are the
--- queue, the fourth is the one that waits. The layout in places is a second definition of the same, with the same names; the laws
--- in proofs/Laws/Queue show that each of its rules does to its list what the list's rule does. Assumes nothing.
+-- The queue of three and the waiting place. What is held is a list, the oldest first, of at most four: the first three
+-- are the queue, the fourth is the one that waits. The layout in places is a second definition of the same, with the
+-- same names; the laws in proofs/Laws/Queue show that each of its rules does to its list what the list's rule does.
+-- Assumes nothing.
 use Prim.Native.Nat.{_-_}
 use mathlib.Core.Bool.{Bool}
 use mathlib.Core.List.{List, [], _∷_, _++_}
@@ -8,7 +9,8 @@ use lib.Dec.{eqb, leb}
 use lib.ListN.{length, take, drop}
 use Rattle.format.specs.Pick.{pick}
 use Rattle.character.specs.declared.character.Character.{Character}
-use Rattle.character.specs.Character.{noCharacter}
+use Rattle.character.specs.declared.character.Marks.{Marks}
+use Rattle.character.specs.Character.{noMarks, noCharacter, unmarkedOf}
 use Rattle.queue.specs.declared.queue.Queue.{Queue}
 
 -- ---- the list ----
@@ -34,6 +36,16 @@ abbrev pub replaced : List Character → Character → List Character
 replaced [] c = []
 replaced (x ∷ h) c = c ∷ h
 
+-- "SR 7-5 show the oldest's marks, 0 if none"
+abbrev pub topMarks : List Character → Marks
+topMarks [] = noMarks
+topMarks (c ∷ h) = c .marks
+
+-- "the top character's marks" cleared
+abbrev pub topUnmarked : List Character → List Character
+topUnmarked [] = []
+topUnmarked (c ∷ h) = unmarkedOf c ∷ h
+
 -- ---- the layout ----
 
 -- the list that a layout means
@@ -57,17 +69,23 @@ oldestOf q = q .first
 abbrev pub waitsOf : Queue → Bool
 waitsOf q = leb 4 (q .count)
 
--- Four are never held when one arrives (proofs/Laws/Waiting); if they were, the arriving one would take the waiting one's place.
+-- Four are never held when one arrives (proofs/Laws/Waiting); if they were, the arriving one would take the waiting
+-- one's place.
 unfoldable pub putOf : Queue → Character → Queue
 putOf q c =
-    pick (eqb (q .count) 0) (record { count = 1; first = c; second = q .second; third = q .third; waiting = q .waiting })
-    (pick (eqb (q .count) 1) (record { count = 2; first = q .first; second = c; third = q .third; waiting = q .waiting })
-    (pick (eqb (q .count) 2) (record { count = 3; first = q .first; second = q .second; third = c; waiting = q .waiting })
+    pick (eqb (q .count) 0)
+    (record { count = 1; first = c; second = q .second; third = q .third; waiting = q .waiting })
+    (pick (eqb (q .count) 1)
+    (record { count = 2; first = q .first; second = c; third = q .third; waiting = q .waiting })
+    (pick (eqb (q .count) 2)
+    (record { count = 3; first = q .first; second = q .second; third = c; waiting = q .waiting })
     (record { count = 4; first = q .first; second = q .second; third = q .third; waiting = c })))
 
 unfoldable pub withoutWaitingOf : Queue → Queue
 withoutWaitingOf q =
-    pick (waitsOf q) (record { count = 3; first = q .first; second = q .second; third = q .third; waiting = q .waiting }) q
+    pick (waitsOf q)
+    (record { count = 3; first = q .first; second = q .second; third = q .third; waiting = q .waiting })
+    q
 
 unfoldable pub tookOf : Queue → Queue
 tookOf q =

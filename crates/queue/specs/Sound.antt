@@ -1,4 +1,5 @@
--- The range of the queue's count, which "hold every value a rule here can put there". docs/SOUND.md lists the same. Assumes nothing.
+-- The range of the queue's count, which "hold every value a rule here can put there". docs/SOUND.md lists the same.
+-- Assumes nothing.
 use mathlib.Core.Bool.{Bool}
 use lib.Dec.{leb}
 use Rattle.queue.specs.declared.queue.Queue.{Queue}

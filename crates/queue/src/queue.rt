@@ -3,7 +3,8 @@
 use character::Character;
 use character::no_character;
 ghost use mathlib.Core.Path.{_≡_};
-ghost use Rattle.queue.specs.Queue.{emptyQueue, isEmptyOf, isFullOf, oldestOf, waitsOf, putOf, withoutWaitingOf, tookOf, replacedOf};
+ghost use Rattle.queue.specs.Queue.{emptyQueue, isEmptyOf, isFullOf, oldestOf, waitsOf, putOf, withoutWaitingOf};
+ghost use Rattle.queue.specs.Queue.{tookOf, replacedOf};
 
 // Those held, the oldest first: `count` of them, from 0 to 4. The fourth is the one that waits.
 #[repr(C)]

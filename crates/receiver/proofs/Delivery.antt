@@ -11,51 +11,39 @@ use borrow.Author.Tests.{le-ltb}
 use Rattle.format.specs.Pick.{pick}
 use Rattle.format.proofs.Laws.Pick.{pick-all}
 use Rattle.character.specs.declared.character.Character.{Character}
-use Rattle.character.specs.Character.{noMarks, unmarkedOf}
-use Rattle.hunting.specs.declared.hunting.Came.{Came}
-use Rattle.hunting.specs.declared.hunting.Came.the-variants.{NoCharacter, Arrival}
-use Rattle.hunting.specs.declared.hunting.Sampled.{Sampled}
+use Rattle.sampler_hunting.specs.declared.hunting.Came.{Came}
+use Rattle.sampler_hunting.specs.declared.hunting.Came.the-variants.{NoCharacter, Arrival}
+use Rattle.sampler_hunting.specs.declared.hunting.Sampled.{Sampled}
 use Rattle.sampler.specs.Lines.{Line, hears, listOf, arrivals}
 use Rattle.sampler.specs.Sampler.{sampleOf}
 use Rattle.sampler.proofs.Laws.Room.{most-four, grown, Roomy, room-sample}
 use Rattle.queue.specs.declared.queue.Queue.{Queue}
-use Rattle.queue.specs.Queue.{heldOf, replaced, took, isEmptyOf, oldestOf, replacedOf}
-use Rattle.queue.proofs.Laws.Queue.{held-length, held-put, held-without-waiting, at-least-held, held-took, held-replaced, held-empty, is-empty-held, oldest-held}
-use Rattle.arrivals.specs.declared.arrivals.Receiver.{Receiver}
-use Rattle.arrivals.specs.Arrivals.{answeredOf, freshReceiver, oldestMarks, heardOf, startedOf, enteredOf, arrivedOf, pulsedOf}
-use Rattle.receiver_commands.specs.declared.commands.Effect.{Effect}
-use Rattle.receiver_commands.specs.declared.commands.Effect.the-variants.{NoEffect, Reset, ClearErrors, ClearBreakChange}
-use Rattle.receiver_commands.specs.declared.commands.Enabling.{Enabling}
-use Rattle.receiver_commands.specs.declared.commands.Enabling.the-variants.{Stays, Enables, Disables}
+use Rattle.queue.specs.Queue.{heldOf, took, isEmptyOf, topMarks}
+use Rattle.queue.proofs.Laws.Queue.{held-length, held-put, held-without-waiting, at-least-held, held-took, held-empty, is-empty-held, oldest-held, held-marks, held-unmarked}
+use Rattle.receiver_state.specs.declared.arrivals.Receiver.{Receiver}
+use Rattle.receiver_state.specs.Arrivals.{answeredOf, freshReceiver, oldestMarks, heardOf, startedOf, enteredOf, arrivedOf, pulsedOf}
+use Rattle.feed.specs.declared.feed.Effect.{Effect}
+use Rattle.feed.specs.declared.feed.Effect.the-variants.{NoEffect, Reset, ClearErrors, ClearBreakChange}
+use Rattle.feed.specs.declared.feed.Enabling.{Enabling}
+use Rattle.feed.specs.declared.feed.Enabling.the-variants.{Stays, Enables, Disables}
 use Rattle.receiver_commands.specs.Commands.{effectOf, enablingOf}
 use Rattle.receiver_status.specs.Status.{shownMarks, statusOf}
 use Rattle.receiver.specs.declared.receiver.Fed.{Fed}
-use Rattle.receiver.specs.declared.receiver.Feed.{Feed}
-use Rattle.receiver.specs.declared.receiver.Feed.the-variants.{Nothing, Pulse, Command, Read, ChipReset}
+use Rattle.feed.specs.declared.feed.Feed.{Feed}
+use Rattle.feed.specs.declared.feed.Feed.the-variants.{Nothing, Pulse, Command, Read, ChipReset}
 use Rattle.receiver.specs.Delivery.{Entry, starts, enters, overruns, Ledger, opened, pulseWritten, effectWritten, enablingWritten, written, ledgerFrom, ledger, asArrived, after, given, reads, linesOf, effectLines, enablingLines, linesOver, Delivers}
 use Rattle.receiver.specs.Delivery.Entry.{entry}
 use Rattle.receiver.specs.Delivery.Fate.{Held, WasRead, Overrun}
 use Rattle.receiver.specs.Receiver.{oldestRead, readOf, fedOf}
-use Rattle.receiver.proofs.Laws.Ledger.{Tells, tells-fates, firstMarks, tells-marks, tells-entered, tells-read, tells-dropped, firstCleared, tells-cleared, tells-overrun, overruns-grow, overruns-entered, arrived-meets, arrived-dropped, arrived-cleared}
+use Rattle.receiver.proofs.Laws.Ledger.{Tells, tells-fates, tells-marks, tells-entered, tells-read, tells-dropped, tells-cleared, tells-overrun, overruns-grow, overruns-entered, arrived-meets, arrived-dropped, arrived-cleared}
 use Rattle.receiver.proofs.Laws.Ledger.Tells.{nothing}
 use Rattle.receiver.proofs.Laws.Waiting.{Room, answered-sampler, started-count, fed-room}
 
 -- ---- the oldest ----
 
-shown-held : (r : Receiver) → shownMarks r false ≡ firstMarks (heldOf (r .queue))
+shown-held : (r : Receiver) → shownMarks r false ≡ topMarks (heldOf (r .queue))
 unfolding shownMarks oldestMarks pick
-shown-held r = go (isEmptyOf (r .queue)) refl
-  where
-    go : (t : Bool) → isEmptyOf (r .queue) ≡ t → pick t noMarks (oldestOf (r .queue) .marks) ≡ firstMarks (heldOf (r .queue))
-    go true e = rw (is-empty-held (r .queue) .0 e)
-    go false e = rw (oldest-held (r .queue) e)
-
-cleared-held : (q : Queue) → heldOf (replacedOf q (unmarkedOf (oldestOf q))) ≡ firstCleared (heldOf q)
-cleared-held q = held-replaced q (unmarkedOf (oldestOf q)) ∙ go (isEmptyOf q) refl
-  where
-    go : (t : Bool) → isEmptyOf q ≡ t → replaced (heldOf q) (unmarkedOf (oldestOf q)) ≡ firstCleared (heldOf q)
-    go true e = rw (is-empty-held q .0 e)
-    go false e = rw (oldest-held q e)
+shown-held r = held-marks (r .queue)
 
 -- what a read gives is the oldest itself, byte and marks
 pub given-held : (r : Receiver) → given fedOf statusOf r Read ≡ take 1 (heldOf (r .queue))
@@ -82,7 +70,7 @@ record InStep (l : Ledger) (r : Receiver) (rs : List Character) : Type 0 where
   pub tells : Tells (l .entries) rs (heldOf (r .queue))
   pub overran : l .overran ≡ r .overrun
 
-four-counted : (r : Receiver) → Room r → r .queue .count ≤ 4
+pub four-counted : (r : Receiver) → Room r → r .queue .count ≤ 4
 four-counted r h = omega (arith, most-four (r .sampler))
 
 four-held : (q : Queue) → q .count ≤ 4 → length (heldOf q) ≤ 4
@@ -130,7 +118,7 @@ in-step-effect : (l : Ledger) (r : Receiver) (rs : List Character) (e : Effect) 
 unfolding effectOf hears
 in-step-effect l r rs NoEffect h = h
 in-step-effect l r rs Reset h = record { sampler = refl; tells = rw held-empty (tells-dropped (h .tells)); overran = h .overran }
-in-step-effect l r rs ClearErrors h = record { sampler = h .sampler; tells = rw cleared-held (tells-cleared (h .tells)); overran = refl }
+in-step-effect l r rs ClearErrors h = record { sampler = h .sampler; tells = rw held-unmarked (tells-cleared (h .tells)); overran = refl }
 in-step-effect l r rs ClearBreakChange h = record { sampler = h .sampler; tells = h .tells; overran = h .overran }
 
 in-step-enabling : (l : Ledger) (r : Receiver) (rs : List Character) (t : Enabling) → InStep l r rs → InStep (enablingWritten l t) (enablingOf r t) rs

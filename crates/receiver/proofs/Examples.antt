@@ -6,31 +6,27 @@ use mathlib.Core.Bool.{Bool, true, false}
 use mathlib.Core.List.{List, [], _∷_, _++_, map}
 use lib.ListN.{replicate}
 use Rattle.format.specs.declared.format.Format.{Format}
-use Rattle.format.specs.Digits.{bitsOf}
 use Rattle.format.specs.Format.{formatOf}
-use Rattle.format.specs.Parity.{parityBits}
 use Rattle.format.specs.Pick.{pick}
-use Rattle.frame.specs.Levels.{beforeStop, spread, levels}
 use Rattle.character.specs.declared.character.Character.{Character}
 use Rattle.character.specs.Character.{noMarks}
-use Rattle.assembly.specs.Assembly.{dataWidthOf, samplesOf, withSample, characterOf, parityWrongOf}
-use Rattle.assembly.specs.State.{gapOf, afterStop}
-use Rattle.hunting.specs.Hunting.{lowAt, hunted, lookedAgain}
+use Rattle.sampler_hunting.specs.Hunting.{lowAt, hunted, lookedAgain}
 use Rattle.sampler.specs.Lines.{at16}
-use Rattle.sampler.specs.Sampler.{finished, sampled, assembled, sampleOf}
-use Rattle.queue.specs.Queue.{heldOf, waitsOf, putOf, withoutWaitingOf, tookOf}
-use Rattle.arrivals.specs.declared.arrivals.Receiver.{Receiver}
-use Rattle.arrivals.specs.Arrivals.{freshReceiver, oldestMarks, startedOf, enteredOf, arrivedOf, pulsedOf}
-use Rattle.receiver_commands.specs.declared.commands.Effect.the-variants.{NoEffect, Reset}
-use Rattle.receiver_commands.specs.declared.commands.Enabling.the-variants.{Stays, Enables}
+use Rattle.sampler.specs.Sampler.{sampleOf}
+use Rattle.queue.specs.Queue.{heldOf, waitsOf}
+use Rattle.receiver_state.specs.declared.arrivals.Receiver.{Receiver}
+use Rattle.receiver_state.specs.Arrivals.{freshReceiver, startedOf, arrivedOf, pulsedOf}
+use Rattle.feed.specs.declared.feed.Effect.the-variants.{NoEffect, Reset}
+use Rattle.feed.specs.declared.feed.Enabling.the-variants.{Stays, Enables}
 use Rattle.receiver_commands.specs.Commands.{effectOf, enablingOf}
 use Rattle.receiver_status.specs.Status.{shownMarks, statusOf}
-use Rattle.receiver.specs.declared.receiver.Feed.{Feed}
-use Rattle.receiver.specs.declared.receiver.Feed.the-variants.{Pulse, Command, Read}
-use Rattle.receiver.specs.Delivery.{after, given, reads}
+use Rattle.feed.specs.declared.feed.Feed.{Feed}
+use Rattle.feed.specs.declared.feed.Feed.the-variants.{Pulse, Command, Read}
+use Rattle.receiver.specs.Delivery.{after, reads}
 use Rattle.receiver.specs.ReadBack.{pulses, sentAll, Idle}
-use Rattle.receiver.specs.Receiver.{oldestRead, readOf, fedOf}
+use Rattle.receiver.specs.Receiver.{fedOf}
 use Rattle.receiver.specs.Sound.{waitingSound}
+use Rattle.receiver.proofs.Computing.{computing}
 
 -- MR1 19: 8 data bits, no parity
 abbrev eight : Format
@@ -74,7 +70,7 @@ record Case7 : Type 0 where
   read : map byteOf (reads fedOf statusOf (fed four) (sentAll eight 16 (5 ∷ []) ++ (Read ∷ Read ∷ Read ∷ Read ∷ Read ∷ []))) ≡ 1 ∷ 2 ∷ 3 ∷ 5 ∷ []
 
 case-7 : Case7
-unfolding shownMarks oldestMarks reads given oldestRead readOf tookOf after fedOf effectOf enablingOf pulsedOf startedOf arrivedOf enteredOf putOf withoutWaitingOf sampleOf hunted lowAt lookedAgain assembled sampled finished afterStop gapOf dataWidthOf samplesOf withSample characterOf parityWrongOf formatOf levels spread beforeStop parityBits bitsOf pick
+unfolding computing
 case-7 = record { arrived = refl; unmarked = refl; waits = refl; sound = refl; before = refl; started = refl; read = refl }
 
 -- "Four arrive unread, receiver reset: SR 0, read 0."
@@ -82,7 +78,7 @@ abbrev reset : Receiver
 reset = fed (four ++ (Command Reset Stays ∷ []))
 
 case-8 : (bits reset ≡ false ∷ false ∷ false ∷ []) × (heldOf (reset .queue) ≡ []) × (fedOf reset Read .byte ≡ 0)
-unfolding heldOf readOf after fedOf effectOf enablingOf pulsedOf startedOf arrivedOf enteredOf putOf withoutWaitingOf sampleOf hunted lowAt lookedAgain assembled sampled finished afterStop gapOf dataWidthOf samplesOf formatOf levels spread beforeStop parityBits bitsOf pick
+unfolding computing
 case-8 = (refl, refl, refl)
 
 -- "Low 8 pulses, high at p+8: nothing. Low at p+8: a start.": phase 2 is a confirmed start under way

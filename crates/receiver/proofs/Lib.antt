@@ -1,4 +1,5 @@
 -- The laws that the crates above cite, and the theorems.
+pub mod Computing
 pub mod Laws
 pub mod Delivery
 pub mod Examples

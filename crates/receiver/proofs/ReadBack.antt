@@ -16,13 +16,13 @@ use Rattle.format.proofs.Laws.Stop.{stop-least}
 use Rattle.frame.specs.Levels.{beforeStop, spread, levels, frame}
 use Rattle.character.specs.declared.character.Character.{Character}
 use Rattle.character.specs.Character.{clean}
-use Rattle.assembly.specs.declared.state.Sampler.{Sampler}
-use Rattle.assembly.specs.declared.state.Setting.{Setting}
-use Rattle.assembly.specs.State.{hunting}
-use Rattle.hunting.specs.declared.hunting.Came.{Came}
-use Rattle.hunting.specs.declared.hunting.Came.the-variants.{NoCharacter, Arrival}
-use Rattle.hunting.specs.declared.hunting.Sampled.{Sampled}
-use Rattle.hunting.specs.Hunting.{hunted}
+use Rattle.sampler_state.specs.declared.state.Sampler.{Sampler}
+use Rattle.feed.specs.declared.feed.Setting.{Setting}
+use Rattle.sampler_state.specs.State.{hunting}
+use Rattle.sampler_hunting.specs.declared.hunting.Came.{Came}
+use Rattle.sampler_hunting.specs.declared.hunting.Came.the-variants.{NoCharacter, Arrival}
+use Rattle.sampler_hunting.specs.declared.hunting.Sampled.{Sampled}
+use Rattle.sampler_hunting.specs.Hunting.{hunted}
 use Rattle.sampler.specs.Lines.{at16, Line, hears, listOf, afterLines, arrivals}
 use Rattle.sampler.specs.Sampler.{sampleOf}
 use Rattle.sampler.proofs.Laws.Heard.{Said, changing, begun, coming, heard, reached, Ran, hears-frame}
@@ -30,10 +30,10 @@ use Rattle.sampler.proofs.Laws.Heard.Said.{changes, began, came}
 use Rattle.queue.specs.declared.queue.Queue.{Queue}
 use Rattle.queue.specs.Queue.{heldOf, withoutWaitingOf}
 use Rattle.queue.proofs.Laws.Queue.{held-put, held-without-waiting, is-empty-held, without-waiting-count}
-use Rattle.arrivals.specs.declared.arrivals.Receiver.{Receiver}
-use Rattle.arrivals.specs.Arrivals.{withSampler, withChange, heardOf, startedOf, enteredOf, arrivedOf, pulsedOf}
+use Rattle.receiver_state.specs.declared.arrivals.Receiver.{Receiver}
+use Rattle.receiver_state.specs.Arrivals.{withSampler, withChange, heardOf, startedOf, enteredOf, arrivedOf, pulsedOf}
 use Rattle.receiver_status.specs.Status.{statusOf}
-use Rattle.receiver.specs.declared.receiver.Feed.{Feed}
+use Rattle.feed.specs.declared.feed.Feed.{Feed}
 use Rattle.receiver.specs.Delivery.{linesOf, linesOver, after}
 use Rattle.receiver.specs.ReadBack.{pulses, sent, sentAll, Idle, ReadBack, ReadBackAll, ReadsBack}
 use Rattle.receiver.specs.Receiver.{fedOf}

@@ -6,8 +6,8 @@ use native.Mathlib.Omega.{arith}
 use Rattle.format.specs.Pick.{pick}
 use Rattle.character.specs.Character.{clean, noCharacter, breakCharacter}
 use Rattle.queue.specs.Queue.{tookOf}
-use Rattle.arrivals.specs.declared.arrivals.Receiver.{Receiver}
-use Rattle.arrivals.specs.Arrivals.{freshReceiver, oldestMarks, withQueue, withLast}
+use Rattle.receiver_state.specs.declared.arrivals.Receiver.{Receiver}
+use Rattle.receiver_state.specs.Arrivals.{freshReceiver, oldestMarks, withQueue, withLast}
 use Rattle.receiver.specs.Receiver.{oldestRead, readOf}
 
 -- the byte 65 held, and a break behind it

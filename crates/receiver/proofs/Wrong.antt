@@ -8,34 +8,28 @@ use mathlib.Core.List.{List, [], _∷_, _++_}
 use native.Mathlib.Omega.{arith}
 use lib.ListN.{length, getD, replicate}
 use Rattle.format.specs.declared.format.Format.{Format}
-use Rattle.format.specs.Digits.{bitsOf}
-use Rattle.format.specs.Parity.{parityBits}
 use Rattle.format.specs.Pick.{pick}
-use Rattle.frame.specs.Levels.{beforeStop, spread, levels}
 use Rattle.character.specs.declared.character.Character.{Character}
 use Rattle.character.specs.declared.character.Marks.{Marks}
 use Rattle.character.specs.Character.{noCharacter, noMarks}
-use Rattle.assembly.specs.Assembly.{dataWidthOf, samplesOf, withSample, characterOf}
-use Rattle.assembly.specs.State.{gapOf, afterStop, hunting, starting}
-use Rattle.hunting.specs.Hunting.{waited, lowAt, hunted, lookedAgain}
-use Rattle.sampler.specs.Lines.{at16, hears}
-use Rattle.sampler.specs.Sampler.{finished, sampled, assembled, sampleOf}
+use Rattle.sampler_state.specs.State.{hunting, starting}
+use Rattle.sampler.specs.Lines.{at16}
 use Rattle.queue.specs.declared.queue.Queue.{Queue}
-use Rattle.queue.specs.Queue.{heldOf, emptyQueue, waitsOf, putOf, withoutWaitingOf, tookOf}
-use Rattle.arrivals.specs.declared.arrivals.Receiver.{Receiver}
-use Rattle.arrivals.specs.Arrivals.{withSampler, withChange, withQueue, freshReceiver, startedOf, enteredOf, arrivedOf, pulsedOf}
-use Rattle.receiver_commands.specs.declared.commands.Effect.the-variants.{NoEffect, Reset, ClearErrors, ClearBreakChange}
-use Rattle.receiver_commands.specs.declared.commands.Enabling.the-variants.{Stays, Enables, Disables}
-use Rattle.receiver_commands.specs.Commands.{effectOf, enablingOf}
+use Rattle.queue.specs.Queue.{emptyQueue, waitsOf, tookOf}
+use Rattle.receiver_state.specs.declared.arrivals.Receiver.{Receiver}
+use Rattle.receiver_state.specs.Arrivals.{withSampler, withChange, withQueue, freshReceiver}
+use Rattle.feed.specs.declared.feed.Effect.the-variants.{NoEffect, Reset, ClearErrors, ClearBreakChange}
+use Rattle.feed.specs.declared.feed.Enabling.the-variants.{Stays, Enables, Disables}
 use Rattle.receiver_status.specs.Status.{statusOf}
 use Rattle.receiver.specs.declared.receiver.Fed.{Fed}
-use Rattle.receiver.specs.declared.receiver.Feed.{Feed}
-use Rattle.receiver.specs.declared.receiver.Feed.the-variants.{Nothing, Pulse, Command, Read, ChipReset}
-use Rattle.receiver.specs.Delivery.{Fate, written, ledgerFrom, Step, Show, after, given, reads, Delivers}
+use Rattle.feed.specs.declared.feed.Feed.{Feed}
+use Rattle.feed.specs.declared.feed.Feed.the-variants.{Nothing, Pulse, Command, Read, ChipReset}
+use Rattle.receiver.specs.Delivery.{Fate, Step, Show, Delivers}
 use Rattle.receiver.specs.Delivery.Fate.{Held}
 use Rattle.receiver.specs.ReadBack.{pulses, sentAll, ReadsBack}
 use Rattle.receiver.specs.Sound.{KeepsSound}
-use Rattle.receiver.specs.Receiver.{unread, oldestRead, readOf, fedOf}
+use Rattle.receiver.specs.Receiver.{unread, fedOf}
+use Rattle.receiver.proofs.Computing.{computing}
 
 -- what a feed leaves, with another queue
 abbrev queueInstead : Fed → Queue → Fed
@@ -64,7 +58,7 @@ abbrev fourth : List (Character × Fate) → ℕ
 fourth l = getD l 3 (noCharacter, Held) .0 .byte
 
 pub no-dropsArriving : Delivers dropsArriving statusOf → ⊥
-unfolding dropsArriving fedOf effectOf enablingOf pulsedOf startedOf arrivedOf enteredOf putOf withoutWaitingOf heldOf after reads given ledgerFrom written hears sampleOf hunted lowAt lookedAgain assembled sampled finished afterStop gapOf dataWidthOf samplesOf withSample characterOf levels spread beforeStop parityBits bitsOf pick
+unfolding computing dropsArriving
 no-dropsArriving h =
     let z : _≡_ {A = ℕ} 5 4 = ap fourth (h freshReceiver (line (1 ∷ 2 ∷ 3 ∷ 4 ∷ 5 ∷ [])) .fates) in
     omega arith
@@ -87,7 +81,7 @@ keepsWaiting r Read = fedOf r Read
 keepsWaiting r ChipReset = fedOf r ChipReset
 
 pub no-keepsWaiting : Delivers keepsWaiting statusOf → ⊥
-unfolding keepsWaiting fedOf effectOf enablingOf pulsedOf startedOf arrivedOf enteredOf putOf withoutWaitingOf heldOf after reads given ledgerFrom written hears sampleOf hunted lowAt lookedAgain assembled sampled finished afterStop gapOf dataWidthOf samplesOf levels spread beforeStop parityBits bitsOf pick
+unfolding computing keepsWaiting
 no-keepsWaiting h =
     let z : _≡_ {A = ℕ} 0 1 = ap length (h freshReceiver (line (1 ∷ 2 ∷ 3 ∷ 4 ∷ []) ++ (Command Reset Stays ∷ [])) .fates) in
     omega arith
@@ -103,7 +97,7 @@ readsTwo r Read = queueInstead (fedOf r Read) (tookOf (fedOf r Read .receiver .q
 readsTwo r ChipReset = fedOf r ChipReset
 
 pub no-readsTwo : Delivers readsTwo statusOf → ⊥
-unfolding readsTwo fedOf effectOf enablingOf pulsedOf startedOf arrivedOf enteredOf readOf oldestRead putOf withoutWaitingOf tookOf heldOf after reads given ledgerFrom written hears sampleOf hunted lowAt lookedAgain assembled sampled finished afterStop gapOf dataWidthOf samplesOf levels spread beforeStop parityBits bitsOf pick
+unfolding computing readsTwo
 no-readsTwo h =
     let z : _≡_ {A = ℕ} 2 1 = ap length (h freshReceiver (line (1 ∷ 2 ∷ []) ++ (Read ∷ [])) .fates) in
     omega arith
@@ -121,7 +115,7 @@ disableEmpties r Read = fedOf r Read
 disableEmpties r ChipReset = fedOf r ChipReset
 
 pub no-disableEmpties : Delivers disableEmpties statusOf → ⊥
-unfolding disableEmpties heldOf after reads given ledgerFrom written hears sampleOf hunted lowAt lookedAgain assembled sampled finished afterStop gapOf dataWidthOf samplesOf levels spread beforeStop parityBits bitsOf pick
+unfolding computing disableEmpties
 no-disableEmpties h =
     let z : _≡_ {A = ℕ} 1 0 = ap length (h freshReceiver (line (1 ∷ []) ++ (Command NoEffect Disables ∷ [])) .fates) in
     omega arith
@@ -133,7 +127,7 @@ unfoldable pub keepsNothing : Step
 keepsNothing r e = queueInstead (fedOf r e) emptyQueue
 
 pub no-keepsNothing : Delivers keepsNothing statusOf → ⊥
-unfolding keepsNothing heldOf after reads given ledgerFrom written hears sampleOf hunted lowAt lookedAgain assembled sampled finished afterStop gapOf dataWidthOf samplesOf levels spread beforeStop parityBits bitsOf pick
+unfolding computing keepsNothing
 no-keepsNothing h =
     let z : _≡_ {A = ℕ} 1 0 = ap length (h freshReceiver (line (1 ∷ [])) .fates) in
     omega arith
@@ -149,7 +143,7 @@ statusTakes r Read = fedOf r Read
 statusTakes r ChipReset = fedOf r ChipReset
 
 pub no-statusTakes : Delivers statusTakes statusOf → ⊥
-unfolding statusTakes fedOf effectOf enablingOf pulsedOf startedOf arrivedOf enteredOf readOf oldestRead putOf withoutWaitingOf tookOf heldOf after reads given ledgerFrom written hears sampleOf hunted lowAt lookedAgain assembled sampled finished afterStop gapOf dataWidthOf samplesOf levels spread beforeStop parityBits bitsOf pick
+unfolding computing statusTakes
 no-statusTakes h =
     let z : _≡_ {A = ℕ} 1 0 = ap length (h freshReceiver (line (1 ∷ []) ++ (Nothing ∷ [])) .fates) in
     omega arith
@@ -160,7 +154,7 @@ abbrev neverReady : Show
 neverReady r block = record { marks = statusOf r block .marks; overrun = r .overrun; full = statusOf r block .full; ready = false }
 
 pub no-neverReady : Delivers fedOf neverReady → ⊥
-unfolding fedOf effectOf enablingOf pulsedOf startedOf arrivedOf enteredOf readOf oldestRead putOf withoutWaitingOf tookOf heldOf after reads given ledgerFrom written hears sampleOf hunted lowAt lookedAgain assembled sampled finished afterStop gapOf dataWidthOf samplesOf levels spread beforeStop parityBits bitsOf pick
+unfolding computing
 no-neverReady h =
     let z : _≡_ {A = ℕ} 1 0 = ap length (h freshReceiver (line (1 ∷ []) ++ (Read ∷ [])) .fates) in
     omega arith
@@ -171,7 +165,7 @@ abbrev idles : Step
 idles r e = unread r
 
 pub no-idles : Delivers idles statusOf → ⊥
-unfolding fedOf effectOf enablingOf pulsedOf startedOf arrivedOf enteredOf readOf oldestRead putOf withoutWaitingOf tookOf heldOf after reads given ledgerFrom written hears sampleOf hunted lowAt lookedAgain assembled sampled finished afterStop gapOf dataWidthOf samplesOf levels spread beforeStop parityBits bitsOf pick
+unfolding computing
 no-idles h =
     let z : _≡_ {A = ℕ} 1 0 = ap length (h freshReceiver (line (1 ∷ [])) .fates) in
     omega arith
@@ -181,7 +175,7 @@ abbrev ready : Receiver
 ready = withSampler freshReceiver (hunting true)
 
 pub no-idles-read : ReadsBack idles statusOf → ⊥
-unfolding fedOf effectOf enablingOf pulsedOf startedOf arrivedOf enteredOf readOf oldestRead putOf withoutWaitingOf tookOf heldOf after reads given ledgerFrom written hears sampleOf hunted lowAt lookedAgain assembled sampled finished afterStop gapOf dataWidthOf samplesOf levels spread beforeStop parityBits bitsOf pick
+unfolding computing
 no-idles-read h =
     let z : _≡_ {A = ℕ} 0 1 = ap length (h eight 16 65 ready (omega arith) (omega arith) (record { hunts = refl; high = refl }) refl .held) in
     omega arith
@@ -192,7 +186,7 @@ abbrev changesAlways : Step
 changesAlways r e = record { receiver = withChange (fedOf r e .receiver) true; byte = fedOf r e .byte }
 
 pub no-changesAlways-read : ReadsBack changesAlways statusOf → ⊥
-unfolding fedOf effectOf enablingOf pulsedOf startedOf arrivedOf enteredOf readOf oldestRead putOf withoutWaitingOf tookOf heldOf after reads given ledgerFrom written hears sampleOf hunted lowAt lookedAgain assembled sampled finished afterStop gapOf dataWidthOf samplesOf levels spread beforeStop parityBits bitsOf pick
+unfolding computing
 no-changesAlways-read h =
     let z : true ≡ false = h eight 16 65 ready (omega arith) (omega arith) (record { hunts = refl; high = refl }) refl .change in
     true≢false z
@@ -207,7 +201,7 @@ unfoldable pub overcounts : Step
 overcounts r e = pick (waitsOf (fedOf r e .receiver .queue)) (queueInstead (fedOf r e) (counted 5 (fedOf r e .receiver .queue))) (fedOf r e)
 
 pub no-overcounts : Delivers overcounts statusOf → ⊥
-unfolding overcounts fedOf effectOf enablingOf pulsedOf startedOf arrivedOf enteredOf readOf oldestRead putOf withoutWaitingOf tookOf heldOf after reads given ledgerFrom written hears sampleOf hunted lowAt lookedAgain assembled sampled finished afterStop gapOf dataWidthOf samplesOf levels spread beforeStop parityBits bitsOf pick
+unfolding computing overcounts
 no-overcounts h =
     let z : 5 ≤ 4 = h freshReceiver (line (1 ∷ 2 ∷ 3 ∷ 4 ∷ [])) .four 1000 in
     omega arith
@@ -217,12 +211,12 @@ abbrev aboutToStart : Receiver
 aboutToStart = withSampler (withQueue freshReceiver (counted 4 emptyQueue)) (starting (at16 eight) (record { 0 = 0 }))
 
 pub no-overcounts-sound : KeepsSound overcounts → ⊥
-unfolding overcounts fedOf effectOf enablingOf pulsedOf startedOf arrivedOf enteredOf readOf oldestRead putOf withoutWaitingOf tookOf heldOf after reads given ledgerFrom written hears sampleOf hunted lowAt lookedAgain assembled sampled finished afterStop gapOf dataWidthOf samplesOf levels spread beforeStop parityBits bitsOf pick
+unfolding computing overcounts
 no-overcounts-sound h = true≢false (sym (h aboutToStart Nothing (record { ranges = refl; waiting = refl }) refl .ranges))
 
 -- the waiting place in use while a confirmed start is under way
 pub no-dropsArriving-sound : KeepsSound dropsArriving → ⊥
-unfolding dropsArriving fedOf effectOf enablingOf pulsedOf startedOf arrivedOf enteredOf readOf oldestRead putOf withoutWaitingOf tookOf heldOf after reads given ledgerFrom written hears sampleOf hunted lowAt lookedAgain assembled sampled finished afterStop gapOf dataWidthOf samplesOf levels spread beforeStop parityBits bitsOf pick
+unfolding computing dropsArriving
 no-dropsArriving-sound h = true≢false (sym (h aboutToStart (Pulse false (at16 eight)) (record { ranges = refl; waiting = refl }) refl .waiting))
 
 -- ---- a status that hides ----
@@ -231,7 +225,7 @@ abbrev hidesOverrun : Show
 hidesOverrun r block = record { marks = statusOf r block .marks; overrun = false; full = statusOf r block .full; ready = statusOf r block .ready }
 
 pub no-hidesOverrun : Delivers fedOf hidesOverrun → ⊥
-unfolding fedOf effectOf enablingOf pulsedOf startedOf arrivedOf enteredOf readOf oldestRead putOf withoutWaitingOf tookOf heldOf after reads given ledgerFrom written hears sampleOf hunted lowAt lookedAgain assembled sampled finished afterStop gapOf dataWidthOf samplesOf levels spread beforeStop parityBits bitsOf pick
+unfolding computing
 no-hidesOverrun h = true≢false (sym (h freshReceiver (line (1 ∷ 2 ∷ 3 ∷ 4 ∷ 5 ∷ [])) .overrun false))
 
 abbrev hidesMarks : Show
@@ -239,7 +233,7 @@ hidesMarks r block = record { marks = noMarks; overrun = r .overrun; full = stat
 
 -- shown by a break: a high, and then 160 lows
 pub no-hidesMarks : Delivers fedOf hidesMarks → ⊥
-unfolding fedOf effectOf enablingOf pulsedOf startedOf arrivedOf enteredOf readOf oldestRead putOf withoutWaitingOf tookOf heldOf after reads given ledgerFrom written hears sampleOf waited hunted lowAt lookedAgain assembled sampled finished afterStop gapOf dataWidthOf samplesOf withSample levels spread beforeStop parityBits bitsOf pick
+unfolding computing
 no-hidesMarks h =
     let z : false ≡ true = ap (λ (m : Marks). m .broken) (h freshReceiver (line [] ++ pulses (at16 eight) (replicate 160 false)) .marks) in
     true≢false (sym z)

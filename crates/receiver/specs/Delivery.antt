@@ -1,7 +1,8 @@
--- Demand 3 for one receiver: what is owed of any list of feeds after a chip reset. The ledger is written from the feeds and from the
--- sampler run alone; no queue is in sight. What a receiver owes is then said of any way `step` to take a feed and any way `show` to tell
--- its status, so that it can be proved of one and proved false of others. The front feeds a pulse to an enabled receiver only, and
--- `Enables` to one that was off; the statement asks no such thing of the list. Assumes nothing.
+-- Demand 3 for one receiver: what is owed of any list of feeds after a chip reset. The ledger is written from the feeds
+-- and from the sampler run alone; no queue is in sight. What a receiver owes is then said of any way `step` to take a
+-- feed and any way `show` to tell its status, so that it can be proved of one and proved false of others. The front
+-- feeds a pulse to an enabled receiver only, and `Enables` to one that was off; the statement asks no such thing of the
+-- list. Assumes nothing.
 use Prim.Native.Nat.{ℕ, zero, suc, _≤_}
 use mathlib.Core.Path.{_≡_}
 use mathlib.Core.Bool.{Bool, true, false, _||_}
@@ -12,23 +13,23 @@ use Rattle.format.specs.Pick.{pick}
 use Rattle.character.specs.declared.character.Character.{Character}
 use Rattle.character.specs.declared.character.Marks.{Marks}
 use Rattle.character.specs.Character.{noMarks, unmarkedOf}
-use Rattle.assembly.specs.declared.state.Sampler.{Sampler}
-use Rattle.assembly.specs.State.{hunting}
-use Rattle.hunting.specs.declared.hunting.Came.{Came}
-use Rattle.hunting.specs.declared.hunting.Came.the-variants.{NoCharacter, Arrival}
-use Rattle.hunting.specs.declared.hunting.Sampled.{Sampled}
+use Rattle.sampler_state.specs.declared.state.Sampler.{Sampler}
+use Rattle.sampler_state.specs.State.{hunting}
+use Rattle.sampler_hunting.specs.declared.hunting.Came.{Came}
+use Rattle.sampler_hunting.specs.declared.hunting.Came.the-variants.{NoCharacter, Arrival}
+use Rattle.sampler_hunting.specs.declared.hunting.Sampled.{Sampled}
 use Rattle.sampler.specs.Lines.{Line, hears, arrivals}
 use Rattle.sampler.specs.Lines.Line.{pulse, enable, disable}
 use Rattle.queue.specs.Queue.{heldOf}
-use Rattle.arrivals.specs.declared.arrivals.Receiver.{Receiver}
-use Rattle.receiver_commands.specs.declared.commands.Effect.{Effect}
-use Rattle.receiver_commands.specs.declared.commands.Effect.the-variants.{NoEffect, Reset, ClearErrors, ClearBreakChange}
-use Rattle.receiver_commands.specs.declared.commands.Enabling.{Enabling}
-use Rattle.receiver_commands.specs.declared.commands.Enabling.the-variants.{Stays, Enables, Disables}
+use Rattle.receiver_state.specs.declared.arrivals.Receiver.{Receiver}
+use Rattle.feed.specs.declared.feed.Effect.{Effect}
+use Rattle.feed.specs.declared.feed.Effect.the-variants.{NoEffect, Reset, ClearErrors, ClearBreakChange}
+use Rattle.feed.specs.declared.feed.Enabling.{Enabling}
+use Rattle.feed.specs.declared.feed.Enabling.the-variants.{Stays, Enables, Disables}
 use Rattle.receiver_status.specs.declared.status.Status.{Status}
 use Rattle.receiver.specs.declared.receiver.Fed.{Fed}
-use Rattle.receiver.specs.declared.receiver.Feed.{Feed}
-use Rattle.receiver.specs.declared.receiver.Feed.the-variants.{Nothing, Pulse, Command, Read, ChipReset}
+use Rattle.feed.specs.declared.feed.Feed.{Feed}
+use Rattle.feed.specs.declared.feed.Feed.the-variants.{Nothing, Pulse, Command, Read, ChipReset}
 
 -- ---- what a sampler sees of a feed ----
 
@@ -109,7 +110,8 @@ overruns (entry c k WasRead ∷ l) = overruns l
 overruns (entry c k Overrun ∷ l) = suc (overruns l)
 overruns (entry c k Dropped ∷ l) = overruns l
 
--- The sampler run alone, the arrivals with their fates, and whether a fate Overrun came since the last command 4 or chip reset.
+-- The sampler run alone, the arrivals with their fates, and whether a fate Overrun came since the last command 4 or
+-- chip reset.
 pub record Ledger : Type 0 where
   pub sampler : Sampler
   pub entries : List Entry
@@ -125,19 +127,22 @@ pulseWritten l m =
     let es : List Entry = enters (m .came) (starts (m .started) (l .entries)) in
     record { sampler = m .next; entries = es; overran = l .overran || ltb (overruns (l .entries)) (overruns es) }
 
--- "2 reset receiver (disabled; queue, waiting place and assembly cleared; overrun mark stays)"; "4 clear overrun, block sums and the top
--- character's marks"
+-- "2 reset receiver (disabled; queue, waiting place and assembly cleared; overrun mark stays)"; "4 clear overrun, block
+-- sums and the top character's marks"
 abbrev pub effectWritten : Ledger → Effect → Ledger
 effectWritten l NoEffect = l
-effectWritten l Reset = record { sampler = hears (l .sampler) disable .next; entries = dropAll (l .entries); overran = l .overran }
+effectWritten l Reset =
+    record { sampler = hears (l .sampler) disable .next; entries = dropAll (l .entries); overran = l .overran }
 effectWritten l ClearErrors = record { sampler = l .sampler; entries = clears (l .entries); overran = false }
 effectWritten l ClearBreakChange = l
 
 -- "Disable drops the character being put together and ends the wait for a break's end, no more."
 abbrev pub enablingWritten : Ledger → Enabling → Ledger
 enablingWritten l Stays = l
-enablingWritten l Enables = record { sampler = hears (l .sampler) enable .next; entries = l .entries; overran = l .overran }
-enablingWritten l Disables = record { sampler = hears (l .sampler) disable .next; entries = l .entries; overran = l .overran }
+enablingWritten l Enables =
+    record { sampler = hears (l .sampler) enable .next; entries = l .entries; overran = l .overran }
+enablingWritten l Disables =
+    record { sampler = hears (l .sampler) disable .next; entries = l .entries; overran = l .overran }
 
 -- "A read takes the oldest"; a chip reset drops all, and clears every mark
 unfoldable pub written : Ledger → Feed → Ledger
@@ -145,7 +150,8 @@ written l Nothing = l
 written l (Pulse level f) = pulseWritten l (hears (l .sampler) (pulse level f))
 written l (Command e t) = enablingWritten (effectWritten l e) t
 written l Read = record { sampler = l .sampler; entries = meets 0 WasRead (l .entries); overran = l .overran }
-written l ChipReset = record { sampler = hears (l .sampler) disable .next; entries = dropAll (l .entries); overran = false }
+written l ChipReset =
+    record { sampler = hears (l .sampler) disable .next; entries = dropAll (l .entries); overran = false }
 
 unfoldable pub ledgerFrom : Ledger → List Feed → Ledger
 ledgerFrom l [] = l
@@ -196,13 +202,14 @@ unfoldable pub after : Step → Receiver → List Feed → Receiver
 after step r [] = r
 after step r (e ∷ es) = after step (step r e .receiver) es
 
--- demand 3: "the program read while the ready bit was set": the byte that the read answers, under the marks that SR shows before it in
--- character mode
+-- demand 3: "the program read while the ready bit was set": the byte that the read answers, under the marks that SR
+-- shows before it in character mode
 unfoldable pub given : Step → Show → Receiver → Feed → List Character
 given step show r Nothing = []
 given step show r (Pulse level f) = []
 given step show r (Command e t) = []
-given step show r Read = pick (show r false .ready) (record { byte = step r Read .byte; marks = show r false .marks } ∷ []) []
+given step show r Read =
+    pick (show r false .ready) (record { byte = step r Read .byte; marks = show r false .marks } ∷ []) []
 given step show r ChipReset = []
 
 unfoldable pub reads : Step → Show → Receiver → List Feed → List Character
@@ -213,14 +220,16 @@ abbrev pub fatedBy : Fate → List Character → List (Character × Fate)
 fatedBy f [] = []
 fatedBy f (c ∷ cs) = (c, f) ∷ fatedBy f cs
 
--- What is owed of a list of feeds, from any receiver after a chip reset; the quotes of the first three fields are demand 3's. The first
--- field is the ledger's own: no receiver is in it.
+-- What is owed of a list of feeds, from any receiver after a chip reset; the quotes of the first three fields are
+-- demand 3's. The first field is the ledger's own: no receiver is in it.
 pub record Delivery (step : Step) (show : Show) (r : Receiver) (es : List Feed) : Type 0 where
   -- the ledger has "exactly these characters in order, each once", whole as they arrived
   pub all : map asArrived (ledger es .entries) ≡ arrivals (hunting false) (linesOver es)
-  -- less those removed and dropped, they are "Those the program read while the ready bit was set, then those still held"
+  -- less those removed and dropped, they are "Those the program read while the ready bit was set, then those still
+  -- held"
   pub fates : map known (live (ledger es .entries))
-      ≡ fatedBy WasRead (reads step show (step r ChipReset .receiver) es) ++ fatedBy Held (heldOf (after step (step r ChipReset .receiver) es .queue))
+      ≡ fatedBy WasRead (reads step show (step r ChipReset .receiver) es)
+      ++ fatedBy Held (heldOf (after step (step r ChipReset .receiver) es .queue))
   -- "At most four are ever held.": after any number of the feeds
   pub four : (k : ℕ) → after step (step r ChipReset .receiver) (take k es) .queue .count ≤ 4
   -- SR bit 4 is set exactly when a fate Overrun came since the last command 4 or chip reset

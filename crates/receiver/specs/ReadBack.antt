@@ -9,13 +9,13 @@ use Rattle.format.specs.Digits.{cutOf}
 use Rattle.frame.specs.Levels.{beforeStop, levels}
 use Rattle.character.specs.declared.character.Character.{Character}
 use Rattle.character.specs.Character.{clean}
-use Rattle.assembly.specs.declared.state.Sampler.{Sampler}
-use Rattle.assembly.specs.declared.state.Setting.{Setting}
+use Rattle.sampler_state.specs.declared.state.Sampler.{Sampler}
+use Rattle.feed.specs.declared.feed.Setting.{Setting}
 use Rattle.sampler.specs.Lines.{at16, afterLines, arrivals}
 use Rattle.queue.specs.Queue.{heldOf}
-use Rattle.arrivals.specs.declared.arrivals.Receiver.{Receiver}
-use Rattle.receiver.specs.declared.receiver.Feed.{Feed}
-use Rattle.receiver.specs.declared.receiver.Feed.the-variants.{Pulse, Read}
+use Rattle.receiver_state.specs.declared.arrivals.Receiver.{Receiver}
+use Rattle.feed.specs.declared.feed.Feed.{Feed}
+use Rattle.feed.specs.declared.feed.Feed.the-variants.{Pulse, Read}
 use Rattle.receiver.specs.Delivery.{linesOver, Step, Show, after, given}
 
 -- levels, one a pulse
@@ -41,8 +41,8 @@ abbrev pub cleanCuts : Format → List ℕ → List Character
 cleanCuts f [] = []
 cleanCuts f (x ∷ xs) = clean (cutOf (f .width .0) x) ∷ cleanCuts f xs
 
--- Exactly one character arrives, the byte cut to its data bits and without a mark; it is the one held; a read gives it, and SR shows no
--- mark before it; overrun and break change are as they were; the receiver is idle again.
+-- Exactly one character arrives, the byte cut to its data bits and without a mark; it is the one held; a read gives it,
+-- and SR shows no mark before it; overrun and break change are as they were; the receiver is idle again.
 pub record ReadBack (step : Step) (show : Show) (f : Format) (n x : ℕ) (r : Receiver) : Type 0 where
   pub one : arrivals (r .sampler) (linesOver (sent f n x)) ≡ clean (cutOf (f .width .0) x) ∷ []
   pub held : heldOf (after step r (sent f n x) .queue) ≡ clean (cutOf (f .width .0) x) ∷ []
@@ -54,9 +54,11 @@ pub record ReadBack (step : Step) (show : Show) (f : Format) (n x : ℕ) (r : Re
 -- a receiver that reads back: any width that MR1 can choose, any parity, any stop of 9 sixteenths or more, any byte
 abbrev pub ReadsBack : Step → Show → Type 0
 ReadsBack step show =
-    (f : Format) (n x : ℕ) (r : Receiver) → f .width .0 ≤ 8 → 9 ≤ n → Idle (r .sampler) → heldOf (r .queue) ≡ [] → ReadBack step show f n x r
+    (f : Format) (n x : ℕ) (r : Receiver) → f .width .0 ≤ 8 → 9 ≤ n → Idle (r .sampler) → heldOf (r .queue) ≡ []
+    → ReadBack step show f n x r
 
--- Frames back to back: each byte arrives once, in order, cut to its data bits and without a mark, and the sampler is idle again.
+-- Frames back to back: each byte arrives once, in order, cut to its data bits and without a mark, and the sampler is
+-- idle again.
 pub record ReadBackAll (f : Format) (n : ℕ) (xs : List ℕ) (s : Sampler) : Type 0 where
   pub each : arrivals s (linesOver (sentAll f n xs)) ≡ cleanCuts f xs
   pub idle : Idle (afterLines s (linesOver (sentAll f n xs)))

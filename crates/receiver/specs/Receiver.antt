@@ -2,26 +2,28 @@
 use Rattle.format.specs.Pick.{pick}
 use Rattle.character.specs.Character.{orMarks}
 use Rattle.queue.specs.Queue.{isEmptyOf, oldestOf, tookOf}
-use Rattle.arrivals.specs.declared.arrivals.Receiver.{Receiver}
-use Rattle.arrivals.specs.Arrivals.{freshReceiver, oldestMarks, withQueue, withSums, withLast, pulsedOf}
+use Rattle.receiver_state.specs.declared.arrivals.Receiver.{Receiver}
+use Rattle.receiver_state.specs.Arrivals.{freshReceiver, oldestMarks, withQueue, withSums, withLast, pulsedOf}
 use Rattle.receiver_commands.specs.Commands.{effectOf, enablingOf}
 use Rattle.receiver.specs.declared.receiver.Fed.{Fed}
-use Rattle.receiver.specs.declared.receiver.Feed.{Feed}
-use Rattle.receiver.specs.declared.receiver.Feed.the-variants.{Nothing, Pulse, Command, Read, ChipReset}
+use Rattle.feed.specs.declared.feed.Feed.{Feed}
+use Rattle.feed.specs.declared.feed.Feed.the-variants.{Nothing, Pulse, Command, Read, ChipReset}
 
 -- ---- a read ----
 
--- The read of a queue that is not empty: the oldest's byte becomes the last byte read, and the next one, if any, becomes oldest.
+-- The read of a queue that is not empty: the oldest's byte becomes the last byte read, and the next one, if any,
+-- becomes oldest.
 unfoldable pub oldestRead : Receiver → Receiver
 oldestRead r =
     withLast (withSums (withQueue r (tookOf (r .queue))) (orMarks (r .sums) (oldestMarks (tookOf (r .queue)))))
     (oldestOf (r .queue) .byte)
 
--- "A read takes the oldest and moves the waiting one up; reading an empty queue repeats the last byte read (0 after a chip reset)
--- and takes nothing."
+-- "A read takes the oldest and moves the waiting one up; reading an empty queue repeats the last byte read (0 after a
+-- chip reset) and takes nothing."
 unfoldable pub readOf : Receiver → Fed
 readOf r =
-    pick (isEmptyOf (r .queue)) (record { receiver = r; byte = r .last }) (record { receiver = oldestRead r; byte = oldestOf (r .queue) .byte })
+    pick (isEmptyOf (r .queue)) (record { receiver = r; byte = r .last })
+    (record { receiver = oldestRead r; byte = oldestOf (r .queue) .byte })
 
 -- ---- any feed ----
 

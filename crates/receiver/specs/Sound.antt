@@ -1,31 +1,23 @@
--- "Sound means no more than this: fields in ranges listed in docs/ that hold every value a rule here can put there, .. and the
--- waiting place used only with three characters held and no confirmed start under way." docs/SOUND.md lists the same ranges. A
--- byte, a mark and a flag may be any of their type. Assumes nothing.
+-- "Sound means no more than this: fields in ranges listed in docs/ that hold every value a rule here can put there, ..
+-- and the waiting place used only with three characters held and no confirmed start under way." docs/SOUND.md lists the
+-- same ranges. A byte, a mark and a flag may be any of their type. Assumes nothing.
 use mathlib.Core.Path.{_≡_}
 use mathlib.Core.List.{List, [], _∷_}
 use mathlib.Core.Bool.{Bool, true, not, _&&_, _||_}
 use lib.Dec.{eqb}
-use Rattle.sampler.specs.Sound.{settingInRange, samplerInRange}
+use Rattle.sampler.specs.Sound.{samplerInRange}
+use Rattle.feed.specs.Ranges.{feedInRange}
 use Rattle.queue.specs.Queue.{waitsOf}
 use Rattle.queue.specs.Sound.{queueInRange}
-use Rattle.arrivals.specs.declared.arrivals.Receiver.{Receiver}
-use Rattle.receiver.specs.declared.receiver.Feed.{Feed}
-use Rattle.receiver.specs.declared.receiver.Feed.the-variants.{Nothing, Pulse, Command, Read, ChipReset}
+use Rattle.receiver_state.specs.declared.arrivals.Receiver.{Receiver}
+use Rattle.feed.specs.declared.feed.Feed.{Feed}
 use Rattle.receiver.specs.Delivery.{Step}
 
 abbrev pub receiverInRange : Receiver → Bool
 receiverInRange r = samplerInRange (r .sampler) && queueInRange (r .queue)
 
--- What a register accepts is in range; so is what a feed carries then.
-abbrev pub feedInRange : Feed → Bool
-feedInRange Nothing = true
-feedInRange (Pulse level f) = settingInRange f
-feedInRange (Command e t) = true
-feedInRange Read = true
-feedInRange ChipReset = true
-
--- "the waiting place used only with three characters held and no confirmed start under way": the layout counts the waiting one
--- as the fourth, so that three are held with it; phase 2 is a confirmed start under way
+-- "the waiting place used only with three characters held and no confirmed start under way": the layout counts the
+-- waiting one as the fourth, so that three are held with it; phase 2 is a confirmed start under way
 abbrev pub waitingSound : Receiver → Bool
 waitingSound r = not (waitsOf (r .queue)) || not (eqb (r .sampler .phase) 2)
 

@@ -3,5 +3,4 @@
 mod receiver;
 
 pub use receiver::Fed;
-pub use receiver::Feed;
 pub use receiver::feed_receiver;

@@ -1,29 +1,17 @@
 // What a feed does to a receiver: a pulse, a command, a read, a chip reset.
-use arrivals::Receiver;
-use arrivals::fresh_receiver;
-use arrivals::oldest_marks;
-use arrivals::pulse;
-use assembly::Setting;
 use character::or_marks;
+use feed::Feed;
 use queue::is_empty;
 use queue::oldest;
 use queue::take_oldest;
-use receiver_commands::Effect;
-use receiver_commands::Enabling;
 use receiver_commands::take_effect;
 use receiver_commands::take_enabling;
+use receiver_state::Receiver;
+use receiver_state::fresh_receiver;
+use receiver_state::oldest_marks;
+use receiver_state::pulse;
 ghost use mathlib.Core.Path.{_≡_};
 ghost use Rattle.receiver.specs.Receiver.{oldestRead, readOf, unread, fedOf};
-
-// What one event hands to a receiver. A pulse reaches an enabled one only: the level of the line, the
-// format and 16X or 1X as they stand.
-pub enum Feed {
-    Nothing,
-    Pulse(bool, Setting),
-    Command(Effect, Enabling),
-    Read,
-    ChipReset,
-}
 
 // The receiver after a feed, and the byte that a read answers, 0 where none is read.
 pub struct Fed {

@@ -4,8 +4,8 @@ use mathlib.Core.Bool.{true, false, true≢false, false≢true}
 use native.Mathlib.Omega.{arith}
 use Rattle.character.specs.Character.{clean, breakCharacter}
 use Rattle.queue.specs.declared.queue.Queue.{Queue}
-use Rattle.arrivals.specs.declared.arrivals.Receiver.{Receiver}
-use Rattle.arrivals.specs.Arrivals.{freshReceiver, withQueue, withOverrun, withSums, withChange}
+use Rattle.receiver_state.specs.declared.arrivals.Receiver.{Receiver}
+use Rattle.receiver_state.specs.Arrivals.{freshReceiver, withQueue, withOverrun, withSums, withChange}
 use Rattle.receiver_commands.specs.Commands.{assemblyDropped, errorsCleared, breakChangeCleared}
 
 -- two breaks held, and every mark set that a command can clear

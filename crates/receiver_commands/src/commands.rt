@@ -1,32 +1,16 @@
 // What a command does to a receiver: bits 6-4 of it, then bits 1-0.
-use arrivals::Receiver;
-use assembly::drop_assembly;
 use character::no_marks;
 use character::unmarked;
+use feed::Effect;
+use feed::Enabling;
 use queue::empty_queue;
 use queue::oldest;
 use queue::replace_oldest;
+use receiver_state::Receiver;
+use sampler_state::drop_assembly;
 ghost use mathlib.Core.Path.{_≡_};
-ghost use Rattle.receiver_commands.specs.Commands.{assemblyDropped, resetOf, errorsCleared, breakChangeCleared, effectOf, enablingOf};
-
-// What bits 6-4 of a command do to a receiver.
-pub enum Effect {
-    NoEffect,
-    // 2 reset receiver
-    Reset,
-    // 4 clear overrun, block sums and the top character's marks
-    ClearErrors,
-    // 5 clear break change
-    ClearBreakChange,
-}
-
-// What bits 1-0 of a command then do to it: `Enables` one that was off. "Enabling it again changes
-// nothing.": that is `Stays`.
-pub enum Enabling {
-    Stays,
-    Enables,
-    Disables,
-}
+ghost use Rattle.receiver_commands.specs.Commands.{assemblyDropped, resetOf, errorsCleared, breakChangeCleared};
+ghost use Rattle.receiver_commands.specs.Commands.{effectOf, enablingOf};
 
 // "Disable drops the character being put together and ends the wait for a break's end, no more."
 fn drop_character(receiver: Receiver) -> Receiver

@@ -4,8 +4,8 @@ use mathlib.Core.Bool.{Bool, true, false, true≢false, false≢true}
 use Rattle.format.specs.Pick.{pick}
 use Rattle.character.specs.Character.{breakCharacter}
 use Rattle.queue.specs.Queue.{isEmptyOf}
-use Rattle.arrivals.specs.declared.arrivals.Receiver.{Receiver}
-use Rattle.arrivals.specs.Arrivals.{freshReceiver, oldestMarks, withSums}
+use Rattle.receiver_state.specs.declared.arrivals.Receiver.{Receiver}
+use Rattle.receiver_state.specs.Arrivals.{freshReceiver, oldestMarks, withSums}
 use Rattle.receiver_status.specs.Status.{shownMarks, statusOf}
 
 -- "Block: the marks, each bit ORed, of all that became oldest": a break has been read, and none is held

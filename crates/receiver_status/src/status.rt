@@ -1,9 +1,9 @@
 // What a receiver shows of itself in the status register.
-use arrivals::Receiver;
-use arrivals::oldest_marks;
 use character::Marks;
 use queue::is_empty;
 use queue::is_full;
+use receiver_state::Receiver;
+use receiver_state::oldest_marks;
 ghost use mathlib.Core.Path.{_≡_};
 ghost use Rattle.receiver_status.specs.Status.{shownMarks, statusOf};
 

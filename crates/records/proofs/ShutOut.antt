@@ -4,7 +4,7 @@ use mathlib.Core.Path.{_≡_}
 use mathlib.Core.Bool.{true, false, false≢true}
 use native.Mathlib.Omega.{arith}
 use Rattle.format.specs.Pick.{pick}
-use Rattle.answers.specs.declared.answers.Lines.{Lines}
+use Rattle.chip_answers.specs.declared.answers.Lines.{Lines}
 use Rattle.events.specs.declared.events.Event.the-variants.{Read, Tick}
 use Rattle.records.specs.Records.{eventOf, seenOf}
 

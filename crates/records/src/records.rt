@@ -1,5 +1,5 @@
 // An event and its answer as records.
-use answers::Lines;
+use chip_answers::Lines;
 use events::Event;
 ghost use mathlib.Core.Path.{_≡_};
 ghost use Rattle.records.specs.Records.{eventOf, seenOf};

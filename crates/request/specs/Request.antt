@@ -1,5 +1,5 @@
--- The frame request: "A separate request writes a frame's levels, one byte 0 or 1 per 16X pulse, at most 192, from MR1, MR2 and a byte; space past it stays.
--- It answers the number and the length, 0 if refused." Assumes nothing.
+-- The frame request: "A separate request writes a frame's levels, one byte 0 or 1 per 16X pulse, at most 192, from MR1,
+-- MR2 and a byte; space past it stays. It answers the number and the length, 0 if refused." Assumes nothing.
 use Prim.Native.Nat.{ℕ}
 use mathlib.Core.Bool.{Bool, true, _||_}
 use mathlib.Core.List.{List, _++_, map}
@@ -39,13 +39,14 @@ answerOf number pulses = record { number = number; length = pick (eqb number 0) 
 unfoldable pub requestOf : ℕ → ℕ → ℕ → FrameAnswer
 requestOf mr1 mr2 n = answerOf (firstRefusal (notModelled mr1 mr2) (spaceShort mr1 mr2 n)) (lengthAsked mr1 mr2)
 
--- What the lent space holds then. Accepted: the levels, and "space past it stays". Refused: what it held (demand 1: "a refused frame
--- request writes nothing into the space it was lent").
+-- What the lent space holds then. Accepted: the levels, and "space past it stays". Refused: what it held (demand 1: "a
+-- refused frame request writes nothing into the space it was lent").
 unfoldable pub spaceAfter : ℕ → ℕ → ℕ → List ℕ → List ℕ
 spaceAfter mr1 mr2 x s =
     pick (eqb (requestOf mr1 mr2 (length s) .number) 0) (levelsAsked mr1 mr2 x ++ drop (lengthAsked mr1 mr2 .0) s) s
 
--- How it is done: as many levels as the answer says are written over the front of the space, of bits that are followed by a stop without end.
+-- How it is done: as many levels as the answer says are written over the front of the space, of bits that are followed
+-- by a stop without end.
 abbrev pub openLevels : ℕ → ℕ → ℕ → List ℕ
 openLevels mr1 x n = map bit (levels 16 n (beforeStop (formatOf mr1) x))
 

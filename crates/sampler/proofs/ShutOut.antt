@@ -5,10 +5,10 @@ use mathlib.Core.Bool.{Bool, true, false, true≢false}
 use native.Mathlib.Omega.{arith}
 use lib.Dec.{eqb}
 use Rattle.format.specs.Pick.{pick}
-use Rattle.assembly.specs.declared.state.Sampler.{Sampler}
-use Rattle.assembly.specs.declared.state.Setting.{Setting}
-use Rattle.assembly.specs.Assembly.{dataWidthOf, samplesOf, withSample}
-use Rattle.assembly.specs.State.{afterStop, assembling}
+use Rattle.sampler_state.specs.declared.state.Sampler.{Sampler}
+use Rattle.feed.specs.declared.feed.Setting.{Setting}
+use Rattle.sampler_state.specs.Assembly.{dataWidthOf, samplesOf, withSample}
+use Rattle.sampler_state.specs.State.{afterStop, assembling}
 use Rattle.sampler.specs.Sampler.{finished, sampled}
 
 -- 16X and 8 data bits, with parity 0 (even) or 2 (none): nine samples before the stop, or eight

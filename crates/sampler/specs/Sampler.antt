@@ -1,21 +1,27 @@
--- The sampler's answer to a pulse: what the line, the clock pulses and the format put together. It never looks at the queue. `true` is a
--- high level. Assumes nothing.
+-- The sampler's answer to a pulse: what the line, the clock pulses and the format put together. It never looks at the
+-- queue. `true` is a high level. Assumes nothing.
 use Prim.Native.Nat.{ℕ, _+_, _-_}
 use mathlib.Core.Bool.{Bool, true, false}
 use lib.Dec.{eqb, ltb}
 use Rattle.format.specs.Pick.{pick}
 use Rattle.character.specs.Character.{breakCharacter}
-use Rattle.assembly.specs.declared.state.Sampler.{Sampler}
-use Rattle.assembly.specs.declared.state.Setting.{Setting}
-use Rattle.assembly.specs.State.{assembling, inBreak, gapOf, afterStop}
-use Rattle.assembly.specs.Assembly.{samplesOf, withSample, characterOf}
-use Rattle.hunting.specs.declared.hunting.Came.the-variants.{Arrival}
-use Rattle.hunting.specs.declared.hunting.Sampled.{Sampled}
-use Rattle.hunting.specs.Hunting.{still, hunted, lookedAgain, followed, waited}
+use Rattle.sampler_state.specs.declared.state.Sampler.{Sampler}
+use Rattle.feed.specs.declared.feed.Setting.{Setting}
+use Rattle.sampler_state.specs.State.{assembling, inBreak, gapOf, afterStop}
+use Rattle.sampler_state.specs.Assembly.{samplesOf, withSample, characterOf}
+use Rattle.sampler_hunting.specs.declared.hunting.Came.the-variants.{Arrival}
+use Rattle.sampler_hunting.specs.declared.hunting.Sampled.{Sampled}
+use Rattle.sampler_hunting.specs.Hunting.{still, hunted, lookedAgain, followed, waited}
 
 -- "the character arrives at the first stop sample"
 abbrev pub arrived : Setting → ℕ → Bool → Sampled
-arrived f v stop = record { next = afterStop (f .sixteen) stop; started = false; came = Arrival (characterOf (f .format) v stop); change = false }
+arrived f v stop =
+    record {
+      next = afterStop (f .sixteen) stop;
+      started = false;
+      came = Arrival (characterOf (f .format) v stop);
+      change = false;
+    }
 
 -- a break: "hunting waits for 8 high pulses in a row"
 abbrev pub broke : Sampled
@@ -29,7 +35,8 @@ finished f v stop = pick stop (arrived f v true) (pick (eqb v 0) broke (arrived 
 unfoldable pub sampled : Sampler → Bool → Sampled
 sampled s level =
     pick (ltb (s .taken .0) (samplesOf (s .setting .format) .0))
-    (still (assembling (s .setting) (gapOf (s .setting .sixteen)) (record { 0 = s .taken .0 + 1 }) (withSample (s .value) (s .taken .0) level)))
+    (still (assembling (s .setting) (gapOf (s .setting .sixteen))
+    (record { 0 = s .taken .0 + 1 }) (withSample (s .value) (s .taken .0) level)))
     (finished (s .setting) (s .value) level)
 
 -- "one sample each 16 pulses"
@@ -38,7 +45,8 @@ assembled s level =
     pick (eqb (s .left .0) 0) (sampled s level)
     (still (assembling (s .setting) (record { 0 = s .left .0 - 1 }) (s .taken) (s .value)))
 
--- One pulse of the receiver's clock, with the level of the line and the setting as it stands. A phase above 4, which no rule puts there, hunts.
+-- One pulse of the receiver's clock, with the level of the line and the setting as it stands. A phase above 4, which no
+-- rule puts there, hunts.
 unfoldable pub sampleOf : Sampler → Bool → Setting → Sampled
 sampleOf s level f =
     pick (eqb (s .phase) 1) (lookedAgain s level)

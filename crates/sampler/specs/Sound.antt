@@ -1,12 +1,9 @@
--- The ranges of the sampler's fields, which "hold every value a rule here can put there". docs/SOUND.md lists the same. Assumes nothing.
+-- The ranges of the sampler's fields, which "hold every value a rule here can put there". docs/SOUND.md lists the same.
+-- Assumes nothing.
 use mathlib.Core.Bool.{Bool, _&&_}
 use lib.Dec.{leb}
-use Rattle.assembly.specs.declared.state.Sampler.{Sampler}
-use Rattle.assembly.specs.declared.state.Setting.{Setting}
-
--- 5 to 8 data bits, parity 0 with, 1 forced, 2 none
-abbrev pub settingInRange : Setting → Bool
-settingInRange f = leb 5 (f .format .width .0) && (leb (f .format .width .0) 8 && leb (f .format .parity) 2)
+use Rattle.sampler_state.specs.declared.state.Sampler.{Sampler}
+use Rattle.feed.specs.Ranges.{settingInRange}
 
 -- five phases, at most 15 pulses to pass, at most nine samples taken
 abbrev pub samplerInRange : Sampler → Bool

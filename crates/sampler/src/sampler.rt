@@ -1,27 +1,27 @@
 // The sampler: characters put together from the levels of a line, pulse by pulse. It never looks at
 // the queue. A disabled receiver is given no pulses, so there is no state for it here.
-use assembly::AFTER_LOW_STOP;
-use assembly::ASSEMBLING;
-use assembly::IN_BREAK;
-use assembly::STARTING;
-use assembly::Sampler;
-use assembly::Setting;
-use assembly::after_stop;
-use assembly::assembling_at;
-use assembly::character_of;
-use assembly::empty_at;
-use assembly::gap;
-use assembly::samples_before_stop;
 use character::break_character;
+use feed::Setting;
 use format::Bits;
 use format::Pulses;
-use hunting::Came;
-use hunting::Sampled;
-use hunting::follow_low_stop;
-use hunting::hunt;
-use hunting::look_again;
-use hunting::quiet;
-use hunting::wait_for_end;
+use sampler_hunting::Came;
+use sampler_hunting::Sampled;
+use sampler_hunting::follow_low_stop;
+use sampler_hunting::hunt;
+use sampler_hunting::look_again;
+use sampler_hunting::quiet;
+use sampler_hunting::wait_for_end;
+use sampler_state::AFTER_LOW_STOP;
+use sampler_state::ASSEMBLING;
+use sampler_state::IN_BREAK;
+use sampler_state::STARTING;
+use sampler_state::Sampler;
+use sampler_state::after_stop;
+use sampler_state::assembling_at;
+use sampler_state::character_of;
+use sampler_state::empty_at;
+use sampler_state::gap;
+use sampler_state::samples_before_stop;
 ghost use mathlib.Core.Path.{_≡_};
 ghost use Rattle.sampler.specs.Sampler.{arrived, finished, sampled, assembled, sampleOf};
 

@@ -12,9 +12,9 @@ use Rattle.format.specs.Pick.{pick}
 use Rattle.format.proofs.Laws.Pick.{pick-all, pick-yes, pick-no}
 use Rattle.dividers.proofs.Laws.Runs.{Turn, turn, first-whole, both-runs, alternates}
 use Rattle.dividers.proofs.Laws.Runs.Turn.{goes, ends}
-use Rattle.counting.specs.declared.counting.Counted.{Counted}
-use Rattle.counting.specs.declared.counting.Timer.{Timer}
-use Rattle.counting.specs.Counting.{withCount, withReady, isTimer, countedDown, counterPulsed, timerPulsed, pulsedBy}
+use Rattle.timer_state.specs.declared.counting.Counted.{Counted}
+use Rattle.timer_state.specs.declared.counting.Timer.{Timer}
+use Rattle.timer_state.specs.Counting.{withCount, withReady, isTimer, countedDown, counterPulsed, timerPulsed, pulsedBy}
 use Rattle.timer.specs.Timer.{startedOf, stoppedOf, modeChanged}
 use Rattle.timer.specs.Counts.{afterPulses, pulsesOf, Counts, Gone, Toggles, Obeys}
 

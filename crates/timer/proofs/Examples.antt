@@ -4,12 +4,12 @@ use mathlib.Core.Path.{_≡_, refl}
 use mathlib.Core.Bool.{true, false}
 use Rattle.format.specs.Pick.{pick}
 use Rattle.dividers.specs.Divider.{dividedOf, sixteenthOf}
-use Rattle.counting.specs.declared.counting.Timer.{Timer}
-use Rattle.counting.specs.Counting.{counterPulsed, timerPulsed, pulsedBy}
+use Rattle.timer_state.specs.declared.counting.Timer.{Timer}
+use Rattle.timer_state.specs.Counting.{counterPulsed, timerPulsed, pulsedBy}
 use Rattle.timer.specs.Timer.{tickedBy, edgedBy, transmittedBy, startedOf, modeChanged}
 
 -- as after a chip reset, but with a preload
-abbrev loaded : ℕ → Timer
+abbrev pub loaded : ℕ → Timer
 loaded n = record { preload = n; count = 0; running = false; output = true; ready = false; ticks = record { 0 = 0 }; edges = record { 0 = 0 } }
 
 abbrev started : ℕ → ℕ → Timer

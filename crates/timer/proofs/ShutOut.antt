@@ -5,8 +5,8 @@ use mathlib.Core.Bool.{true, false, _||_, true≢false, false≢true}
 use native.Mathlib.Omega.{arith}
 use lib.Dec.{eqb}
 use Rattle.format.specs.Pick.{pick}
-use Rattle.counting.specs.declared.counting.Timer.{Timer}
-use Rattle.counting.specs.Counting.{freshTimer, withPreload, withRunning, modeOf, isTimer}
+use Rattle.timer_state.specs.declared.counting.Timer.{Timer}
+use Rattle.timer_state.specs.Counting.{freshTimer, withPreload, withRunning, modeOf, isTimer}
 use Rattle.timer.specs.Timer.{startedOf, stoppedOf, modeChanged}
 
 -- a counter under way

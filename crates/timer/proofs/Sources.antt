@@ -17,9 +17,9 @@ use Rattle.dividers.specs.declared.divider.Divided.{Divided}
 use Rattle.dividers.specs.declared.divider.Sixteenth.{Sixteenth}
 use Rattle.dividers.specs.Divider.{dividedOf, sixteenthOf}
 use Rattle.dividers.proofs.Laws.Divider.{ticksOf, pulsesOf, divided-at, sixteenth-at}
-use Rattle.counting.specs.declared.counting.Counted.{Counted}
-use Rattle.counting.specs.declared.counting.Timer.{Timer}
-use Rattle.counting.specs.Counting.{withPhases, modeOf, isTimer, countedDown, tickPulses, edgePulses, transmitterPulses, counterPulsed, timerPulsed, pulsedBy}
+use Rattle.timer_state.specs.declared.counting.Counted.{Counted}
+use Rattle.timer_state.specs.declared.counting.Timer.{Timer}
+use Rattle.timer_state.specs.Counting.{withPhases, modeOf, isTimer, countedDown, tickPulses, edgePulses, transmitterPulses, counterPulsed, timerPulsed, pulsedBy}
 use Rattle.timer.specs.Timer.{tickedBy, edgedBy, transmittedBy, startedOf, stoppedOf, modeChanged}
 use Rattle.timer.specs.Counts.{Kept, Leaves}
 use Rattle.timer.specs.Sources.{Ways, Sources, Happening, isTick, isEdge, howMany, happens, since, AlwaysRuns}

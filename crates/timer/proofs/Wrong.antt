@@ -8,19 +8,16 @@ use native.Mathlib.Omega.{arith}
 use lib.Dec.{eqb}
 use Rattle.format.specs.Pick.{pick}
 use Rattle.dividers.specs.Divider.{dividedOf, sixteenthOf}
-use Rattle.counting.specs.declared.counting.Counted.{Counted}
-use Rattle.counting.specs.declared.counting.Timer.{Timer}
-use Rattle.counting.specs.Counting.{freshTimer, withCount, withRunning, withReady, withPhases, modeOf, isTimer, countedDown, counterPulsed, timerPulsed, pulsedBy, withPreload}
+use Rattle.timer_state.specs.declared.counting.Counted.{Counted}
+use Rattle.timer_state.specs.declared.counting.Timer.{Timer}
+use Rattle.timer_state.specs.Counting.{freshTimer, withCount, withRunning, withReady, withPhases, modeOf, isTimer, countedDown, counterPulsed, timerPulsed, pulsedBy, withPreload}
 use Rattle.timer.specs.Timer.{tickedBy, edgedBy, transmittedBy, startedOf, stoppedOf, modeChanged}
 use Rattle.timer.specs.Counts.{Pulsing, Command, afterPulses, Leaves, Counts, Toggles, Obeys}
 use Rattle.timer.specs.Sources.{Ways, Sources, howMany, since, AlwaysRuns}
 use Rattle.timer.specs.Sources.Happening.{tick, start}
+use Rattle.timer.proofs.Examples.{loaded}
 
 -- ---- the counter ----
-
--- a timer fresh but for its preload
-abbrev loaded : ℕ → Timer
-loaded n = record { preload = n; count = 0; running = false; output = true; ready = false; ticks = record { 0 = 0 }; edges = record { 0 = 0 } }
 
 -- what a pulse does, with another timer
 abbrev instead : Counted → Timer → Counted

@@ -1,9 +1,9 @@
--- The ranges of the counter/timer's fields, which "hold every value a rule here can put there". docs/SOUND.md lists the same. A flag, and the
--- count and the preload, may be any of their type. Assumes nothing.
+-- The ranges of the counter/timer's fields, which "hold every value a rule here can put there". docs/SOUND.md lists the
+-- same. A flag, and the count and the preload, may be any of their type. Assumes nothing.
 use mathlib.Core.Path.{_≡_}
 use mathlib.Core.Bool.{Bool, true, _&&_}
 use lib.Dec.{leb}
-use Rattle.counting.specs.declared.counting.Timer.{Timer}
+use Rattle.timer_state.specs.declared.counting.Timer.{Timer}
 
 -- both /16 phases
 abbrev pub timerInRange : Timer → Bool

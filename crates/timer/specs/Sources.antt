@@ -1,14 +1,16 @@
--- What pulses the counter/timer, said of any way to take a tick, an edge of IP2 and the 1X transmitter clocks, so that it can be proved of
--- one and proved false of others: "Both /16 phases always run, from 0 at a chip reset." Assumes nothing.
+-- What pulses the counter/timer, said of any way to take a tick, an edge of IP2 and the 1X transmitter clocks, so that
+-- it can be proved of one and proved false of others: "Both /16 phases always run, from 0 at a chip reset." Assumes
+-- nothing.
 use Prim.Native.Nat.{ℕ, suc, _+_, _%_}
 use mathlib.Core.Path.{_≡_}
 use mathlib.Core.Bool.{Bool, true, false}
 use mathlib.Core.List.{List, [], _∷_}
 use lib.Dec.{eqb}
 use Rattle.format.specs.Digits.{bit}
-use Rattle.counting.specs.declared.counting.Counted.{Counted}
-use Rattle.counting.specs.declared.counting.Timer.{Timer}
-use Rattle.counting.specs.Counting.{freshTimer, withPhases, modeOf, tickPulses, edgePulses, transmitterPulses, withPreload}
+use Rattle.timer_state.specs.declared.counting.Counted.{Counted}
+use Rattle.timer_state.specs.declared.counting.Timer.{Timer}
+use Rattle.timer_state.specs.Counting.{freshTimer, withPhases, modeOf, tickPulses, edgePulses, transmitterPulses}
+use Rattle.timer_state.specs.Counting.{withPreload}
 use Rattle.timer.specs.Counts.{Pulsing}
 
 -- ways to take what may pulse it
@@ -23,9 +25,11 @@ pub record Ways : Type 0 where
 -- Where m ticks, or m edges, have come since the phase was 0, the next is the 16th exactly where 16 divides m + 1.
 pub record Sources (w : Ways) (p : Pulsing) : Type 0 where
   pub ticks : (t : Timer) (mode m : ℕ) → t .ticks .0 ≡ m % 16
-      → w .tick t mode ≡ p (withPhases t (record { 0 = suc m % 16 }) (t .edges)) mode (tickPulses mode (eqb (suc m % 16) 0))
+      → w .tick t mode ≡ p (withPhases t (record { 0 = suc m % 16 }) (t .edges)) mode
+      (tickPulses mode (eqb (suc m % 16) 0))
   pub edges : (t : Timer) (mode m : ℕ) → t .edges .0 ≡ m % 16
-      → w .edge t mode ≡ p (withPhases t (t .ticks) (record { 0 = suc m % 16 })) mode (edgePulses mode (eqb (suc m % 16) 0))
+      → w .edge t mode ≡ p (withPhases t (t .ticks) (record { 0 = suc m % 16 })) mode
+      (edgePulses mode (eqb (suc m % 16) 0))
   pub bits : (t : Timer) (mode : ℕ) (a b : Bool) → w .bits t mode a b ≡ p t mode (transmitterPulses mode a b) .timer
 
 -- all that can happen to it but a chip reset: `acr` is a write of that register, `preload` of those

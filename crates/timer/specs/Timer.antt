@@ -1,12 +1,14 @@
--- What happens to the counter/timer: a tick, an edge, a 1X transmitter clock; a start, a stop, another mode. Assumes nothing.
+-- What happens to the counter/timer: a tick, an edge, a 1X transmitter clock; a start, a stop, another mode. Assumes
+-- nothing.
 use Prim.Native.Nat.{ℕ}
 use mathlib.Core.Bool.{Bool, true, false}
 use lib.Dec.{eqb}
 use Rattle.format.specs.Pick.{pick}
 use Rattle.dividers.specs.Divider.{dividedOf, sixteenthOf}
-use Rattle.counting.specs.declared.counting.Counted.{Counted}
-use Rattle.counting.specs.declared.counting.Timer.{Timer}
-use Rattle.counting.specs.Counting.{withCount, withRunning, withReady, withPhases, modeOf, isTimer, tickPulses, edgePulses, transmitterPulses, pulsedBy}
+use Rattle.timer_state.specs.declared.counting.Counted.{Counted}
+use Rattle.timer_state.specs.declared.counting.Timer.{Timer}
+use Rattle.timer_state.specs.Counting.{withCount, withRunning, withReady, withPhases, modeOf, isTimer, tickPulses}
+use Rattle.timer_state.specs.Counting.{edgePulses, transmitterPulses, pulsedBy}
 
 -- a tick: "Both /16 phases always run"
 unfoldable pub tickedBy : Timer → ℕ → Counted
@@ -17,7 +19,8 @@ tickedBy t mode =
 -- a rising edge of IP2
 unfoldable pub edgedBy : Timer → ℕ → Counted
 edgedBy t mode =
-    pulsedBy (withPhases t (t .ticks) (sixteenthOf (t .edges) .phase)) mode (edgePulses mode (sixteenthOf (t .edges) .pulse))
+    pulsedBy (withPhases t (t .ticks) (sixteenthOf (t .edges) .phase)) mode
+    (edgePulses mode (sixteenthOf (t .edges) .pulse))
 
 -- "counter from a 1X transmitter clock": which of A and B had a pulse
 abbrev pub transmittedBy : Timer → ℕ → Bool → Bool → Timer
@@ -27,7 +30,8 @@ transmittedBy t mode a b = pulsedBy t mode (transmitterPulses mode a b) .timer
 
 -- "Counter: start loads the preload and runs"; "Timer: .. start reloads and drives the output high, setting no bit"
 unfoldable pub startedOf : Timer → ℕ → Timer
-startedOf t mode = pick (isTimer mode) (withCount t (t .preload) true) (withRunning (withCount t (t .preload) (t .output)) true)
+startedOf t mode =
+    pick (isTimer mode) (withCount t (t .preload) true) (withRunning (withCount t (t .preload) (t .output)) true)
 
 -- "Counter: .. stop halts and clears the bit"; "Timer: .. stop clears the bit only"
 unfoldable pub stoppedOf : Timer → ℕ → Timer

@@ -1,16 +1,16 @@
 // What happens to the counter/timer: a tick, an edge, a 1X transmitter clock; a start, a stop, another
 // mode.
-use counting::Counted;
-use counting::Timer;
-use counting::edge_pulses;
-use counting::is_timer;
-use counting::mode_of;
-use counting::pulse_by;
-use counting::tick_pulses;
-use counting::transmitter_pulses;
 use dividers::divide;
 use dividers::divide_by_16;
 use format::Ticks;
+use timer_state::Counted;
+use timer_state::Timer;
+use timer_state::edge_pulses;
+use timer_state::is_timer;
+use timer_state::mode_of;
+use timer_state::pulse_by;
+use timer_state::tick_pulses;
+use timer_state::transmitter_pulses;
 ghost use mathlib.Core.Path.{_≡_};
 ghost use Rattle.timer.specs.Timer.{tickedBy, edgedBy, transmittedBy, startedOf, stoppedOf, modeChanged};
 

@@ -5,16 +5,14 @@ use mathlib.Core.Path.{_≡_, refl, ap, _∙_}
 use mathlib.Core.Bool.{Bool, true, false}
 use mathlib.Core.List.{List, [], _∷_, _++_}
 use lib.ListN.{length, replicate}
-use Rattle.format.specs.Digits.{bitsOf, valueOf}
 use Rattle.format.specs.Format.{formatOf}
-use Rattle.format.specs.Parity.{parityBits}
 use Rattle.format.specs.Pick.{pick}
-use Rattle.format.specs.Stop.{stopLengthOf, stopBitsOf}
-use Rattle.frame.specs.Levels.{beforeStop, bitsBeforeStopOf, spread, levels, frame, frameLengthOf, frameBitsOf, levelOf}
-use Rattle.sending.specs.declared.sending.Standing.{Standing}
-use Rattle.sending.specs.declared.state.Transmitter.{Transmitter}
-use Rattle.sending.specs.State.{freshTransmitter}
-use Rattle.sending.specs.Sending.{clearToSend, canStart, takenOf, begunOf, bitOfPulse, sentOnOf, heldHigh, pulsedOf}
+use Rattle.format.specs.Stop.{stopBitsOf}
+use Rattle.frame.specs.Levels.{bitsBeforeStopOf, spread, frame, frameLengthOf}
+use Rattle.transmitter_state.specs.declared.sending.Standing.{Standing}
+use Rattle.transmitter_state.specs.declared.state.Transmitter.{Transmitter}
+use Rattle.transmitter_state.specs.State.{freshTransmitter}
+use Rattle.transmitter_state.specs.Sending.{clearToSend, canStart, takenOf, begunOf, sentOnOf, heldHigh, pulsedOf}
 use Rattle.transmitter.specs.declared.transmitter.Input.{Input}
 use Rattle.transmitter.specs.declared.transmitter.Input.the-variants.{Pulse, Write, Enable, Disable, StartBreak, StopBreak, Reset}
 use Rattle.transmitter.specs.Commands.{writtenOf, breakEnded, droppedOf, breakAsked}
@@ -23,6 +21,7 @@ use Rattle.transmitter.specs.Status.{statusOf}
 use Rattle.transmitter.specs.Frames.{after, pulsesIn, line, noReset, free, Startable, frameAt, inTime, stream}
 use Rattle.transmitter.specs.Breaks.{unended, allAt}
 use Rattle.transmitter.specs.Sound.{transmitterInRange}
+use Rattle.transmitter.proofs.Computing.{computing}
 
 -- MR1 19 and MR2 7: 8 data bits, no parity, one stop bit, CTS not chosen; at 16X or 1X
 abbrev eight : Bool → Standing
@@ -63,7 +62,7 @@ unfolding after afterInput writtenOf pick
 can-start sixteen = record { idle = refl; enabled = refl; full = refl; clear = refl }
 
 sixteen-each : lineOver (eight true) 160 written ≡ spread 16 alternate
-unfolding after afterInput writtenOf pulsedOf sentOnOf begunOf takenOf bitOfPulse pick spread beforeStop bitsOf parityBits formatOf levelOf frameBitsOf valueOf frameLengthOf bitsBeforeStopOf stopLengthOf
+unfolding computing
 sixteen-each = refl
 
 record Sent : Type 0 where
@@ -75,7 +74,7 @@ record Sent : Type 0 where
   empty : (statusOf (after afterInput written (pulses true 160)) .empty ≡ false) × (statusOf (after afterInput written (pulses true 161)) .empty ≡ true)
 
 sent : Sent
-unfolding after pulsesIn afterInput writtenOf pulsedOf sentOnOf begunOf takenOf pick frame levels spread beforeStop bitsOf parityBits formatOf frameLengthOf bitsBeforeStopOf stopLengthOf stopBitsOf
+unfolding computing
 sent = record { sixteen = line-over (eight true) 160 written ∙ sixteen-each; frame = refl; meanwhile = refl; last = refl; empty = (refl, refl) }
 
 -- ---- a pair ----
@@ -92,7 +91,7 @@ record Pair : Type 0 where
   next : Startable (from (Write 85 ∷ pulses false 4 ++ Write 170 ∷ pulses false 6)) (eight false)
 
 back-to-back : Pair
-unfolding after line afterInput writtenOf pulsedOf sentOnOf begunOf takenOf bitOfPulse pick frame levels spread beforeStop bitsOf parityBits formatOf levelOf frameBitsOf valueOf frameLengthOf bitsBeforeStopOf stopBitsOf
+unfolding computing line
 back-to-back =
     record { idle = refl; clear = refl; time = refl; goes = refl; next = record { idle = refl; enabled = refl; full = refl; clear = refl } }
 

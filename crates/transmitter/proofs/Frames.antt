@@ -19,11 +19,11 @@ use Rattle.format.proofs.Laws.Pick.{pick-yes, pick-no, pick-all}
 use Rattle.frame.specs.Levels.{beforeStop, frame, frameBitsOf, frameLengthOf, levelOf}
 use Rattle.frame.proofs.Laws.Levels.{before-stop-most, length-before-stop, frame-length, frame-at}
 use Rattle.frame.proofs.Laws.Register.{register-at}
-use Rattle.sending.specs.declared.sending.Standing.{Standing}
-use Rattle.sending.specs.declared.state.Shifter.{Shifter}
-use Rattle.sending.specs.declared.state.Transmitter.{Transmitter}
-use Rattle.sending.specs.State.{withHolding, withPhase, withShifter}
-use Rattle.sending.specs.Sending.{canStart, takenOf, startedOf, breakBegun, idleOf, begunOf, bitOfPulse, sentOnOf, pulsedOf}
+use Rattle.transmitter_state.specs.declared.sending.Standing.{Standing}
+use Rattle.transmitter_state.specs.declared.state.Shifter.{Shifter}
+use Rattle.transmitter_state.specs.declared.state.Transmitter.{Transmitter}
+use Rattle.transmitter_state.specs.State.{withHolding, withPhase, withShifter}
+use Rattle.transmitter_state.specs.Sending.{canStart, takenOf, startedOf, breakBegun, idleOf, begunOf, bitOfPulse, sentOnOf, pulsedOf}
 use Rattle.transmitter.specs.declared.transmitter.Input.{Input}
 use Rattle.transmitter.specs.declared.transmitter.Input.the-variants.{Nothing, Pulse, Write, Enable, Disable, StartBreak, StopBreak, Reset, ChipReset}
 use Rattle.transmitter.specs.Commands.{writtenOf, breakEnded, breakAsked}

@@ -5,8 +5,8 @@ use lib.Dec.{eqb}
 use borrow.Author.Tests.{eqb-true}
 use Rattle.format.specs.Pick.{pick}
 use Rattle.format.proofs.Laws.Pick.{pick-all}
-use Rattle.sending.specs.declared.state.Transmitter.{Transmitter}
-use Rattle.sending.specs.State.{withAsked}
+use Rattle.transmitter_state.specs.declared.state.Transmitter.{Transmitter}
+use Rattle.transmitter_state.specs.State.{withAsked}
 use Rattle.transmitter.specs.declared.transmitter.Input.the-variants.{StartBreak, Reset}
 use Rattle.transmitter.specs.Commands.{writtenOf, breakEnded, droppedOf, breakAsked}
 use Rattle.transmitter.specs.Status.{shifterEmpty}

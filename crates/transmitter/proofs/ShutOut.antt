@@ -5,10 +5,10 @@ use mathlib.Core.Bool.{true, false, not, _&&_, _||_, true≢false}
 use native.Mathlib.Omega.{arith}
 use lib.Dec.{eqb, leb}
 use Rattle.format.specs.Pick.{pick}
-use Rattle.sending.specs.declared.state.Shifter.{Shifter}
-use Rattle.sending.specs.declared.state.Transmitter.{Transmitter}
-use Rattle.sending.specs.State.{idlePhase, sending, inBreak, afterBreak, freshTransmitter}
-use Rattle.sending.specs.State.{withEnabled, withHolding, withPhase, withShifter}
+use Rattle.transmitter_state.specs.declared.state.Shifter.{Shifter}
+use Rattle.transmitter_state.specs.declared.state.Transmitter.{Transmitter}
+use Rattle.transmitter_state.specs.State.{idlePhase, sending, inBreak, afterBreak, freshTransmitter}
+use Rattle.transmitter_state.specs.State.{withEnabled, withHolding, withPhase, withShifter}
 use Rattle.transmitter.specs.Commands.{writtenOf, highAfter, breakEnded, disabledOf, droppedOf, breakAsked}
 use Rattle.transmitter.specs.Status.{shifterEmpty, statusOf}
 

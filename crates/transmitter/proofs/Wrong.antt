@@ -8,23 +8,23 @@ use mathlib.Core.List.{List, [], _∷_}
 use native.Mathlib.Omega.{arith}
 use lib.Dec.{eqb, leb}
 use lib.ListN.{getD, replicate}
-use Rattle.format.specs.Digits.{bitsOf, valueOf}
+use Rattle.format.specs.Digits.{bitsOf}
 use Rattle.format.specs.Format.{formatOf, stopCodeOf}
 use Rattle.format.specs.Parity.{parityBits}
 use Rattle.format.specs.Pick.{pick}
-use Rattle.format.specs.Stop.{stopLengthOf, stopBitsOf}
-use Rattle.frame.specs.Levels.{beforeStop, bitsBeforeStopOf, spread, levels, frame, frameLengthOf, frameBitsOf, levelOf}
-use Rattle.sending.specs.declared.sending.Standing.{Standing}
-use Rattle.sending.specs.declared.state.Shifter.{Shifter}
-use Rattle.sending.specs.declared.state.Transmitter.{Transmitter}
-use Rattle.sending.specs.State.{emptyShifter, freshTransmitter, withEnabled, withHolding, withPhase, withShifter, withAsked}
-use Rattle.sending.specs.Sending.{canStart, takenOf, startedOf, breakBegun, idleOf, begunOf, bitOfPulse, oneMore, sentOnOf, pulsedOf}
+use Rattle.format.specs.Stop.{stopBitsOf}
+use Rattle.frame.specs.Levels.{beforeStop, bitsBeforeStopOf, spread, levels, frame, frameLengthOf}
+use Rattle.transmitter_state.specs.declared.sending.Standing.{Standing}
+use Rattle.transmitter_state.specs.declared.state.Shifter.{Shifter}
+use Rattle.transmitter_state.specs.declared.state.Transmitter.{Transmitter}
+use Rattle.transmitter_state.specs.State.{emptyShifter, freshTransmitter, withEnabled, withHolding, withPhase, withShifter, withAsked}
+use Rattle.transmitter_state.specs.Sending.{canStart, takenOf, startedOf, breakBegun, idleOf, begunOf, oneMore, sentOnOf, pulsedOf}
 use Rattle.transmitter.specs.declared.transmitter.Input.{Input}
 use Rattle.transmitter.specs.declared.transmitter.Input.the-variants.{Nothing, Pulse, Write, Enable, Disable, StartBreak, StopBreak, Reset, ChipReset}
 use Rattle.transmitter.specs.Commands.{writtenOf, enabledOf, breakEnded, disabledOf, resetOf, breakAsked}
-use Rattle.transmitter.specs.Transmitter.{afterInput}
 use Rattle.transmitter.specs.Frames.{Step, after, pulsesIn, line, free, Startable, Sends, GoesBackToBack}
 use Rattle.transmitter.specs.Sound.{KeepsRanges}
+use Rattle.transmitter.proofs.Computing.{computing}
 
 -- ---- one fault ----
 
@@ -63,19 +63,6 @@ stopping f = taking (record { pulse = pulsedOf; write = writtenOf; disable = dis
 abbrev pub resetting : (Transmitter → Transmitter) → Step
 resetting f = taking (record { pulse = pulsedOf; write = writtenOf; disable = disabledOf; stop = breakEnded; reset = f })
 
--- with none of them another it is the right one
-none-other : (t : Transmitter) (x : Input) → pulsing pulsedOf t x ≡ afterInput t x
-unfolding afterInput
-none-other t Nothing = refl
-none-other t (Pulse s) = refl
-none-other t (Write byte) = refl
-none-other t Enable = refl
-none-other t Disable = refl
-none-other t StartBreak = refl
-none-other t StopBreak = refl
-none-other t Reset = refl
-none-other t ChipReset = refl
-
 -- MR1 16 and MR2 7 at 1X: a frame of seven pulses, 5 data bits, no parity, one stop bit
 abbrev pub once : Standing
 once = record { mr1 = 16; mr2 = 7; sixteen = false; cts = false }
@@ -104,7 +91,7 @@ startsEarly =
     pick (last && canStart t s) (startedOf t s) (pulsedOf t s))
 
 pub no-startsEarly : Sends startsEarly → ⊥
-unfolding startsEarly after pulsesIn pulsedOf sentOnOf begunOf takenOf writtenOf pick frame levels spread beforeStop bitsOf parityBits formatOf frameLengthOf bitsBeforeStopOf stopBitsOf
+unfolding computing startsEarly
 no-startsEarly h =
     let z : false ≡ true = h .level (ready 0) once (Write 0 ∷ pulses 6) (startable 0) refl (omega arith) in
     true≢false (sym z)
@@ -127,7 +114,7 @@ readsFormat =
 
 -- the clock goes to 16X after the start
 pub no-readsFormat : Sends readsFormat → ⊥
-unfolding readsFormat after pulsesIn pulsedOf sentOnOf begunOf takenOf bitOfPulse pick frame levels spread beforeStop bitsOf parityBits formatOf levelOf frameBitsOf valueOf frameLengthOf bitsBeforeStopOf stopLengthOf
+unfolding computing readsFormat
 no-readsFormat h =
     let z : false ≡ true =
     h .level (ready 1) once (Pulse (record { mr1 = 16; mr2 = 7; sixteen = true; cts = false }) ∷ []) (startable 1) refl (omega arith) in

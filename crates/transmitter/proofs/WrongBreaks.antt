@@ -7,10 +7,10 @@ use native.Mathlib.Omega.{arith}
 use lib.Dec.{eqb, ltb}
 use lib.ListN.{replicate}
 use Rattle.format.specs.Pick.{pick}
-use Rattle.sending.specs.declared.sending.Standing.{Standing}
-use Rattle.sending.specs.declared.state.Transmitter.{Transmitter}
-use Rattle.sending.specs.State.{freshTransmitter, withHolding, withPhase, withLeft, withAsked}
-use Rattle.sending.specs.Sending.{canStart, idleOf, begunOf, heldHigh, pulsedOf}
+use Rattle.transmitter_state.specs.declared.sending.Standing.{Standing}
+use Rattle.transmitter_state.specs.declared.state.Transmitter.{Transmitter}
+use Rattle.transmitter_state.specs.State.{freshTransmitter, withHolding, withPhase, withLeft, withAsked}
+use Rattle.transmitter_state.specs.Sending.{canStart, idleOf, begunOf, heldHigh, pulsedOf}
 use Rattle.transmitter.specs.declared.transmitter.Input.the-variants.{Pulse, Write, StopBreak}
 use Rattle.transmitter.specs.Commands.{writtenOf, highAfter, breakEnded, disabledOf, resetOf}
 use Rattle.transmitter.specs.Transmitter.{afterInput}

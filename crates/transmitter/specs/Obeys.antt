@@ -3,9 +3,10 @@ use Prim.Native.Nat.{ℕ}
 use mathlib.Core.Path.{_≡_}
 use mathlib.Core.Bool.{true, false}
 use lib.Dec.{eqb}
-use Rattle.sending.specs.declared.state.Transmitter.{Transmitter}
-use Rattle.sending.specs.State.{inBreak, afterBreak, freshTransmitter, withEnabled, withHolding, withAsked}
-use Rattle.transmitter.specs.declared.transmitter.Input.the-variants.{Nothing, Write, Enable, Disable, StartBreak, StopBreak, Reset, ChipReset}
+use Rattle.transmitter_state.specs.declared.state.Transmitter.{Transmitter}
+use Rattle.transmitter_state.specs.State.{inBreak, afterBreak, freshTransmitter, withEnabled, withHolding, withAsked}
+use Rattle.transmitter.specs.declared.transmitter.Input.the-variants.{Nothing, Write, Enable, Disable, StartBreak}
+use Rattle.transmitter.specs.declared.transmitter.Input.the-variants.{StopBreak, Reset, ChipReset}
 use Rattle.transmitter.specs.Status.{shifterEmpty}
 use Rattle.transmitter.specs.Frames.{Step, free}
 
@@ -26,12 +27,14 @@ pub record Obeys (step : Step) : Type 0 where
   pub disables : (t : Transmitter) → step t Disable ≡ withEnabled (step t StopBreak) false
   -- "start break while disabled is ignored", and so it is while one is being sent
   pub unasked : (t : Transmitter) → t .enabled ≡ false → step t StartBreak ≡ t
-  pub asks : (t : Transmitter) → t .enabled ≡ true → eqb (t .phase) inBreak ≡ false → step t StartBreak ≡ withAsked t true
+  pub asks : (t : Transmitter) → t .enabled ≡ true → eqb (t .phase) inBreak ≡ false
+      → step t StartBreak ≡ withAsked t true
   pub already : (t : Transmitter) → eqb (t .phase) inBreak ≡ true → step t StartBreak ≡ t
   -- "one not yet begun is just dropped"
   pub drops : (t : Transmitter) → eqb (t .phase) inBreak ≡ false → step t StopBreak ≡ withAsked t false
   pub resets : (t : Transmitter) → AllDropped (step t Reset)
-  -- the next start may come on the very next pulse, but for the high bit after a break, of which as much is owed as after a stop
+  -- the next start may come on the very next pulse, but for the high bit after a break, of which as much is owed as
+  -- after a stop
   pub frees : (t : Transmitter) → eqb (step t StopBreak .phase) afterBreak ≡ false → free (step t Reset) ≡ true
   pub owes : (t : Transmitter) → eqb (step t StopBreak .phase) afterBreak ≡ true
       → (eqb (step t Reset .phase) afterBreak ≡ true) × (step t Reset .left ≡ step t StopBreak .left)

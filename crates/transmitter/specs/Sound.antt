@@ -1,9 +1,9 @@
--- The ranges of a transmitter's fields, which "hold every value a rule here can put there". docs/SOUND.md lists the same. A byte, a flag
--- and the frame's bits may be any of their type. Assumes nothing.
+-- The ranges of a transmitter's fields, which "hold every value a rule here can put there". docs/SOUND.md lists the
+-- same. A byte, a flag and the frame's bits may be any of their type. Assumes nothing.
 use mathlib.Core.Path.{_≡_}
 use mathlib.Core.Bool.{Bool, true, _&&_}
 use lib.Dec.{leb}
-use Rattle.sending.specs.declared.state.Transmitter.{Transmitter}
+use Rattle.transmitter_state.specs.declared.state.Transmitter.{Transmitter}
 use Rattle.transmitter.specs.declared.transmitter.Input.{Input}
 use Rattle.transmitter.specs.Frames.{Step}
 

@@ -1,9 +1,10 @@
 -- One transmitter, and what an input does to it. Assumes nothing.
-use Rattle.sending.specs.declared.state.Transmitter.{Transmitter}
-use Rattle.sending.specs.State.{freshTransmitter}
-use Rattle.sending.specs.Sending.{pulsedOf}
+use Rattle.transmitter_state.specs.declared.state.Transmitter.{Transmitter}
+use Rattle.transmitter_state.specs.State.{freshTransmitter}
+use Rattle.transmitter_state.specs.Sending.{pulsedOf}
 use Rattle.transmitter.specs.declared.transmitter.Input.{Input}
-use Rattle.transmitter.specs.declared.transmitter.Input.the-variants.{Nothing, Pulse, Write, Enable, Disable, StartBreak, StopBreak, Reset, ChipReset}
+use Rattle.transmitter.specs.declared.transmitter.Input.the-variants.{Nothing, Pulse, Write, Enable, Disable}
+use Rattle.transmitter.specs.declared.transmitter.Input.the-variants.{StartBreak, StopBreak, Reset, ChipReset}
 use Rattle.transmitter.specs.Commands.{writtenOf, enabledOf, breakEnded, disabledOf, resetOf, breakAsked}
 
 unfoldable pub afterInput : Transmitter → Input → Transmitter

@@ -1,12 +1,13 @@
 // What the program does to a transmitter: a write, and the commands.
 use format::Pulses;
-use sending::AFTER_BREAK;
-use sending::IDLE;
-use sending::IN_BREAK;
-use sending::Transmitter;
-use sending::empty_shifter;
+use transmitter_state::AFTER_BREAK;
+use transmitter_state::IDLE;
+use transmitter_state::IN_BREAK;
+use transmitter_state::Transmitter;
+use transmitter_state::empty_shifter;
 ghost use mathlib.Core.Path.{_≡_};
-ghost use Rattle.transmitter.specs.Commands.{writtenOf, enabledOf, highAfter, breakEnded, disabledOf, droppedOf, resetOf, breakAsked};
+ghost use Rattle.transmitter.specs.Commands.{writtenOf, enabledOf, highAfter, breakEnded, disabledOf, droppedOf};
+ghost use Rattle.transmitter.specs.Commands.{resetOf, breakAsked};
 
 // "A write while disabled is ignored; a second write replaces the first."
 pub fn write(transmitter: Transmitter, byte: u8) -> Transmitter

@@ -1,6 +1,6 @@
 // TxRDY and TxEMT.
-use sending::SENDING;
-use sending::Transmitter;
+use transmitter_state::SENDING;
+use transmitter_state::Transmitter;
 ghost use mathlib.Core.Path.{_≡_};
 ghost use Rattle.transmitter.specs.Status.{shifterEmpty, statusOf};
 

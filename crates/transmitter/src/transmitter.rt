@@ -5,10 +5,10 @@ use crate::commands::enable;
 use crate::commands::end_break;
 use crate::commands::reset;
 use crate::commands::write;
-use sending::Standing;
-use sending::Transmitter;
-use sending::fresh_transmitter;
-use sending::pulse;
+use transmitter_state::Standing;
+use transmitter_state::Transmitter;
+use transmitter_state::fresh_transmitter;
+use transmitter_state::pulse;
 ghost use mathlib.Core.Path.{_≡_};
 ghost use Rattle.transmitter.specs.Transmitter.{afterInput};
 

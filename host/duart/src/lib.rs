@@ -1,6 +1,6 @@
 //! The proved MC68681 serial chip, for Rust.
 //!
-//! The archive `libboard.a` holds the chip as `rt staticlib board` compiles it from the proved source; this crate declares
+//! The archive `libduart.a` holds the chip as `rt staticlib duart` compiles it from the proved source; this crate declares
 //! its four names and gives them a safe face. What each call promises is the contract of the Rattle function of that name:
 //! every call on every device and every event ends with an answer, a refused event leaves the device as it was, and a refused
 //! frame request leaves the space as it was.

@@ -12,33 +12,32 @@ use Rattle.character.specs.declared.character.Character.{Character}
 use Rattle.queue.specs.Queue.{heldOf, took}
 use Rattle.queue.proofs.Laws.Queue.{held-length, is-empty-held}
 use Rattle.sampler.specs.Sound.{samplerInRange}
-use Rattle.arrivals.specs.declared.arrivals.Receiver.{Receiver}
+use Rattle.receiver_state.specs.declared.arrivals.Receiver.{Receiver}
 use Rattle.receiver_commands.specs.Commands.{effectOf, enablingOf}
 use Rattle.receiver_status.specs.Status.{statusOf}
-use Rattle.receiver.specs.declared.receiver.Feed.the-variants as Feeds
+use Rattle.feed.specs.declared.feed.Feed.the-variants as Feeds
 use Rattle.receiver.specs.Receiver.{fedOf}
 use Rattle.receiver.specs.Sound.{receiverInRange}
 use Rattle.receiver.specs.Delivery.{given}
 use Rattle.receiver.proofs.Delivery.{given-held, read-held}
 use Rattle.transmitter.specs.Status as Transmitters
-use Rattle.soundness.specs.Soundness.{receiverSound}
-use Rattle.side.specs.Side.{modeNotModelled, modeWritten}
-use Rattle.shown.specs.Shown.{statusRegister, blockErrors, shownOf}
-use Rattle.commands.specs.Commands.{receiverEffect, receiverEnabling, sideCommanded, commandFeed}
+use Rattle.chip_soundness.specs.Soundness.{receiverSound}
+use Rattle.front_side.specs.Side.{modeNotModelled, modeWritten}
+use Rattle.chip_shown.specs.Shown.{statusRegister, blockErrors, shownOf}
+use Rattle.front_commands.specs.Commands.{receiverEffect, receiverEnabling, sideCommanded, commandFeed}
 use Rattle.front.specs.declared.front.Front.{Front}
 use Rattle.front.specs.Sound.{frontInRange}
-use Rattle.writes.specs.Writes.{sideWritten, registerWritten}
+use Rattle.front_writes.specs.Writes.{sideWritten, registerWritten}
 use Rattle.events.specs.declared.events.Event.{Event}
 use Rattle.events.specs.declared.events.Event.the-variants.{Read, Write}
-use Rattle.events.specs.Refusals.{registerAbove15, forbiddenRead, forbiddenCommand}
 use Rattle.front_events.specs.FrontEvents.{frontStepped}
-use Rattle.front_events.specs.NotModelled.{writeNotModelled, settingNotModelled}
-use Rattle.device.specs.declared.device.Device.{Device}
-use Rattle.device.specs.Device.{isSoundOf}
-use Rattle.duart.specs.Duart.{stepOf}
-use Rattle.chip.specs.Alone.{handedAfter}
-use Rattle.chip.specs.Reset.{resetAt}
-use Rattle.chip.specs.Sound.{after}
+use Rattle.chip_refusals.specs.Rows.{registerAbove15, forbiddenRead, forbiddenCommand, writeNotModelled, settingNotModelled}
+use Rattle.chip_device.specs.declared.device.Device.{Device}
+use Rattle.chip_device.specs.Device.{isSoundOf}
+use Rattle.chip_step.specs.Chip.{stepOf}
+use Rattle.chip_laws.specs.Alone.{handedAfter}
+use Rattle.chip_laws.specs.Reset.{resetAt}
+use Rattle.chip_laws.specs.Sound.{after}
 use Rattle.demands.specs.Chip.{Channel, registerOf, andThen, over, chipOf, statusBit}
 use Rattle.demands.specs.Chip.Channel.{A, B}
 use Rattle.demands.specs.Clocks.{frontThen, sideOf}

@@ -7,12 +7,12 @@ use lib.Dec.{eqb}
 use borrow.Author.Tests.{eqb-true}
 use Rattle.format.specs.Pick.{pick}
 use Rattle.format.proofs.Laws.Pick.{pick-all}
-use Rattle.receiver_commands.specs.declared.commands.Effect.{Effect}
-use Rattle.receiver_commands.specs.declared.commands.Effect.the-variants.{NoEffect, Reset, ClearErrors, ClearBreakChange}
-use Rattle.receiver.specs.declared.receiver.Feed.{Feed}
-use Rattle.receiver.specs.declared.receiver.Feed.the-variants as Feeds
-use Rattle.commands.specs.Commands.{receiverEffect, commandFeed}
-use Rattle.side.specs.declared.side.Side.{Side}
+use Rattle.feed.specs.declared.feed.Effect.{Effect}
+use Rattle.feed.specs.declared.feed.Effect.the-variants.{NoEffect, Reset, ClearErrors, ClearBreakChange}
+use Rattle.feed.specs.declared.feed.Feed.{Feed}
+use Rattle.feed.specs.declared.feed.Feed.the-variants as Feeds
+use Rattle.front_commands.specs.Commands.{receiverEffect, commandFeed}
+use Rattle.front_side.specs.declared.side.Side.{Side}
 use Rattle.front.specs.declared.front.Front.{Front}
 use Rattle.events.specs.declared.events.Event.{Event}
 use Rattle.events.specs.declared.events.Event.the-variants.{ChipReset, Read, Write, Acknowledge, Pins, Tick}

@@ -11,9 +11,9 @@ use lib.Dec.{eqb}
 use borrow.Author.Tests.{ne-eqb}
 use Rattle.format.specs.Digits.{bit}
 use Rattle.format.specs.Pick.{pick}
-use Rattle.counting.specs.declared.counting.Timer.{Timer}
-use Rattle.counting.specs.Counting.{withPhases, modeOf, isTimer, countedDown, tickPulses, edgePulses, transmitterPulses}
-use Rattle.counting.specs.Counting.{counterPulsed, timerPulsed, pulsedBy}
+use Rattle.timer_state.specs.declared.counting.Timer.{Timer}
+use Rattle.timer_state.specs.Counting.{withPhases, modeOf, isTimer, countedDown, tickPulses, edgePulses, transmitterPulses}
+use Rattle.timer_state.specs.Counting.{counterPulsed, timerPulsed, pulsedBy}
 use Rattle.timer.specs.Timer.{tickedBy, edgedBy}
 use Rattle.timer.specs.Counts.{afterPulses}
 use Rattle.timer.proofs.Sources.{leaves, sources}
@@ -23,7 +23,7 @@ use Rattle.front.specs.Front.{frontAt}
 use Rattle.front_clocks.specs.Clocking.{countedOf}
 use Rattle.events.specs.declared.events.Event.{Event}
 use Rattle.events.specs.declared.events.Event.the-variants.{ChipReset, Read, Write, Acknowledge, Pins, Tick}
-use Rattle.demands.specs.Chip.{over, allOf}
+use Rattle.demands.specs.Chip.{over, eachOf}
 use Rattle.demands.specs.Told.{lastWritten}
 use Rattle.demands.specs.Clocks.{frontThen, frontAfter}
 use Rattle.demands.specs.Counter.{Elapsed, elapsedThen, leavesCounter}
@@ -160,7 +160,7 @@ acr-left f e l = acr-next f e ∙ go e l
     go (Pins levels) l = refl
     go Tick l = refl
 
-pub acr-over : (f : Front) (es : List Event) → allOf leavesCounter es ≡ true → over frontThen f es .acr ≡ f .acr
+pub acr-over : (f : Front) (es : List Event) → eachOf leavesCounter es ≡ true → over frontThen f es .acr ≡ f .acr
 unfolding over
 acr-over f [] l = refl
 acr-over f (e ∷ es) l =
@@ -193,7 +193,7 @@ goes-next mode base t x f e a l g =
     }
 
 pub goes-over : (mode base : ℕ) (t : Timer) (x : Elapsed) (f : Front) (es : List Event)
-    → Apart mode → allOf leavesCounter es ≡ true → Goes mode base t x f → Goes mode base t (over (elapsedThen mode) x es) (over frontThen f es)
+    → Apart mode → eachOf leavesCounter es ≡ true → Goes mode base t x f → Goes mode base t (over (elapsedThen mode) x es) (over frontThen f es)
 unfolding over
 goes-over mode base t x f [] a l g = g
 goes-over mode base t x f (e ∷ es) a l g =

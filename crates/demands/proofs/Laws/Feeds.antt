@@ -9,25 +9,25 @@ use borrow.Author.Tests.{lt-ltb, ne-eqb}
 use Rattle.format.specs.Pick.{pick}
 use Rattle.format.proofs.Laws.Pick.{pick-all}
 use Rattle.bytes.specs.Bytes.{hasBit}
-use Rattle.receiver.specs.declared.receiver.Feed.{Feed}
-use Rattle.receiver.specs.declared.receiver.Feed.the-variants as Feeds
+use Rattle.feed.specs.declared.feed.Feed.{Feed}
+use Rattle.feed.specs.declared.feed.Feed.the-variants as Feeds
 use Rattle.clocks.specs.Pulses.Side.{receives}
 use Rattle.inputs.specs.Inputs.{movedOf, pinsOfA, pinsOfB}
 use Rattle.outputs.specs.Outputs.{opcrNotModelled}
-use Rattle.side.specs.Side.{modeNotModelled}
-use Rattle.side_clocks.specs.Clocking.{settingOf, lineOf, sideClocked}
-use Rattle.commands.specs.Commands.{commandFeed}
-use Rattle.events.specs.Refusals.{commandForbidden, registerAbove15, forbiddenRead, forbiddenCommand}
+use Rattle.front_side.specs.Side.{modeNotModelled}
+use Rattle.front_side_clocks.specs.Clocking.{settingOf, lineOf, sideClocked}
+use Rattle.front_commands.specs.Commands.{commandFeed}
 use Rattle.front.specs.declared.front.Front.{Front}
 use Rattle.front.specs.declared.front.Handed.{Handed}
 use Rattle.front_clocks.specs.Clocking.{clockedWith, clockedOf, levelsMoved}
-use Rattle.reads.specs.Reads.{sideRead, registerRead}
-use Rattle.writes.specs.Writes.{sideWritten, registerWritten}
+use Rattle.front_reads.specs.Reads.{sideRead, registerRead}
+use Rattle.front_writes.specs.Writes.{sideWritten, registerWritten}
 use Rattle.events.specs.declared.events.Event.{Event}
 use Rattle.events.specs.declared.events.Event.the-variants.{ChipReset, Read, Write, Acknowledge, Pins, Tick}
 use Rattle.front_events.specs.FrontEvents.{frontStepped}
-use Rattle.front_events.specs.NotModelled.{writeNotModelled, settingNotModelled}
-use Rattle.chip.specs.Alone.{handedAfter}
+use Rattle.events.specs.Command.{commandForbidden}
+use Rattle.chip_refusals.specs.Rows.{registerAbove15, forbiddenRead, forbiddenCommand, writeNotModelled, settingNotModelled}
+use Rattle.chip_laws.specs.Alone.{handedAfter}
 use Rattle.demands.specs.Chip.{Channel, ofChannel, registerOf}
 use Rattle.demands.specs.Chip.Channel.{A, B}
 use Rattle.demands.specs.Clocks.{sideOf, clocksOf, pulsedBy}

@@ -10,18 +10,18 @@ use Rattle.character.specs.Character.{noMarks, orMarks}
 use Rattle.queue.specs.declared.queue.Queue.{Queue}
 use Rattle.queue.specs.Queue.{heldOf, isEmptyOf}
 use Rattle.queue.proofs.Laws.Queue.{is-empty-held, oldest-held}
-use Rattle.arrivals.specs.declared.arrivals.Receiver.{Receiver}
-use Rattle.arrivals.specs.Arrivals as Arrivals
+use Rattle.receiver_state.specs.declared.arrivals.Receiver.{Receiver}
+use Rattle.receiver_state.specs.Arrivals as Arrivals
 use Rattle.receiver_status.specs.Status.{shownMarks}
-use Rattle.receiver.specs.declared.receiver.Feed.{Feed}
+use Rattle.feed.specs.declared.feed.Feed.{Feed}
 use Rattle.receiver.specs.Receiver.{readOf, fedOf}
 use Rattle.receiver.specs.Delivery.{Ledger, opened, written, oldestKnown}
 use Rattle.receiver.proofs.Delivery.{delivery}
 use Rattle.front.specs.declared.front.Front.{Front}
 use Rattle.events.specs.declared.events.Event.{Event}
-use Rattle.duart.specs.Duart.{stepOf}
-use Rattle.chip.specs.Reset.{resetAt}
-use Rattle.chip.specs.Sound.{after}
+use Rattle.chip_step.specs.Chip.{stepOf}
+use Rattle.chip_laws.specs.Reset.{resetAt}
+use Rattle.chip_laws.specs.Sound.{after}
 use Rattle.demands.specs.Chip.{Channel, registerOf, andThen, chipOf, shows, statusBit}
 use Rattle.demands.specs.Chip.Channel.{A, B}
 use Rattle.demands.specs.Clocks.{frontAfter}

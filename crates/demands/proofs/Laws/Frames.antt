@@ -8,8 +8,8 @@ use native.Mathlib.Omega.{arith}
 use lib.ListN.{length, getD, take, drop}
 use lib.Seq.{drop-cons}
 use Rattle.format.specs.Pick.{pick}
-use Rattle.sending.specs.declared.sending.Standing.{Standing}
-use Rattle.sending.specs.declared.state.Transmitter.{Transmitter}
+use Rattle.transmitter_state.specs.declared.sending.Standing.{Standing}
+use Rattle.transmitter_state.specs.declared.state.Transmitter.{Transmitter}
 use Rattle.transmitter.specs.declared.transmitter.Input.{Input}
 use Rattle.transmitter.specs.declared.transmitter.Input.the-variants.{Pulse}
 use Rattle.transmitter.specs.Transmitter.{afterInput}

@@ -12,25 +12,25 @@ use Rattle.inputs.specs.declared.inputs.ChannelPins.{ChannelPins}
 use Rattle.inputs.specs.Inputs.{movedOf, changesCleared, pinsOfA, pinsOfB}
 use Rattle.outputs.specs.declared.outputs.Outputs.{Outputs}
 use Rattle.outputs.specs.Outputs.{bitsSet, bitsReset, outputsChosen, opcrNotModelled}
-use Rattle.side.specs.declared.side.Side.{Side}
-use Rattle.side.specs.Side.{freshSide, withTransmitter, withClocks, modeNotModelled, pointedAt, modeWritten, csrWritten, setChanged, bufferWritten}
-use Rattle.side_clocks.specs.Clocking.{transmitterPulsed, sideClocked}
-use Rattle.commands.specs.Commands.{sideCommanded}
-use Rattle.events.specs.Refusals.{commandForbidden, registerAbove15, forbiddenRead, forbiddenCommand}
-use Rattle.counting.specs.Counting.{withPreload, modeOf}
+use Rattle.front_side.specs.declared.side.Side.{Side}
+use Rattle.front_side.specs.Side.{freshSide, withTransmitter, withClocks, modeNotModelled, pointedAt, modeWritten, csrWritten, setChanged, bufferWritten}
+use Rattle.front_side_clocks.specs.Clocking.{transmitterPulsed, sideClocked}
+use Rattle.front_commands.specs.Commands.{sideCommanded}
+use Rattle.timer_state.specs.Counting.{withPreload, modeOf}
 use Rattle.timer.specs.Timer.{startedOf, stoppedOf, modeChanged, transmittedBy}
 use Rattle.front.specs.declared.front.Front.{Front}
 use Rattle.front.specs.declared.front.SideHanded.{SideHanded}
 use Rattle.front.specs.Front.{frontAt, withSides, withPorts, handedNothing, handedA, handedB}
 use Rattle.front_clocks.specs.Clocking.{countedOf, clockedWith, clockedOf, levelsMoved}
-use Rattle.reads.specs.Reads.{sideRead, sharedRead, registerRead}
-use Rattle.writes.specs.Writes.{commanded, preloadHigh, preloadLow, acrWritten, outputsWritten, sharedWritten, registerWritten}
-use Rattle.writes.specs.Writes as Writes
+use Rattle.front_reads.specs.Reads.{sideRead, sharedRead, registerRead}
+use Rattle.front_writes.specs.Writes.{commanded, preloadHigh, preloadLow, acrWritten, outputsWritten, sharedWritten, registerWritten}
+use Rattle.front_writes.specs.Writes as Writes
 use Rattle.events.specs.declared.events.Event.{Event}
 use Rattle.events.specs.declared.events.Event.the-variants.{ChipReset, Read, Write, Acknowledge, Pins, Tick}
 use Rattle.front_events.specs.FrontEvents.{frontStepped}
-use Rattle.front_events.specs.NotModelled.{writeNotModelled, settingNotModelled}
-use Rattle.chip.specs.Alone.{handedAfter}
+use Rattle.events.specs.Command.{commandForbidden}
+use Rattle.chip_refusals.specs.Rows.{registerAbove15, forbiddenRead, forbiddenCommand, writeNotModelled, settingNotModelled}
+use Rattle.chip_laws.specs.Alone.{handedAfter}
 use Rattle.demands.specs.Chip.{Channel, ofChannel, registerOf}
 use Rattle.demands.specs.Chip.Channel.{A, B}
 use Rattle.demands.specs.Clocks.{frontThen, sideOf, clocksOf}

@@ -9,27 +9,27 @@ use lib.Dec.{eqb}
 use borrow.Author.Tests.{le-ltb}
 use Rattle.format.specs.Pick.{pick}
 use Rattle.format.proofs.Laws.Pick.{pick-all}
-use Rattle.assembly.specs.declared.state.Sampler.{Sampler}
-use Rattle.assembly.specs.State.{hunting}
-use Rattle.hunting.specs.Hunting.{still}
+use Rattle.sampler_state.specs.declared.state.Sampler.{Sampler}
+use Rattle.sampler_state.specs.State.{hunting}
+use Rattle.sampler_hunting.specs.Hunting.{still}
 use Rattle.sampler.specs.Lines.{Line, hears}
 use Rattle.sampler.specs.Lines.Line.{enable, disable}
-use Rattle.receiver_commands.specs.declared.commands.Effect.{Effect}
-use Rattle.receiver_commands.specs.declared.commands.Effect.the-variants.{NoEffect, Reset, ClearErrors, ClearBreakChange}
-use Rattle.receiver_commands.specs.declared.commands.Enabling.{Enabling}
-use Rattle.receiver_commands.specs.declared.commands.Enabling.the-variants.{Stays, Enables, Disables}
-use Rattle.receiver.specs.declared.receiver.Feed.{Feed}
-use Rattle.receiver.specs.declared.receiver.Feed.the-variants as Feeds
+use Rattle.feed.specs.declared.feed.Effect.{Effect}
+use Rattle.feed.specs.declared.feed.Effect.the-variants.{NoEffect, Reset, ClearErrors, ClearBreakChange}
+use Rattle.feed.specs.declared.feed.Enabling.{Enabling}
+use Rattle.feed.specs.declared.feed.Enabling.the-variants.{Stays, Enables, Disables}
+use Rattle.feed.specs.declared.feed.Feed.{Feed}
+use Rattle.feed.specs.declared.feed.Feed.the-variants as Feeds
 use Rattle.receiver.specs.Delivery as Receivers
 use Rattle.receiver.specs.Delivery.{Ledger, meets, dropAll, clears, overruns, pulseWritten, effectLines, linesOf, linesOver, effectWritten, enablingWritten, written}
 use Rattle.receiver.specs.Delivery.Fate.{WasRead}
-use Rattle.commands.specs.Commands.{receiverEffect, receiverEnabling, commandFeed}
-use Rattle.side.specs.declared.side.Side.{Side}
+use Rattle.front_commands.specs.Commands.{receiverEffect, receiverEnabling, commandFeed}
+use Rattle.front_side.specs.declared.side.Side.{Side}
 use Rattle.front.specs.declared.front.Front.{Front}
 use Rattle.events.specs.declared.events.Event.{Event}
 use Rattle.events.specs.declared.events.Event.the-variants.{ChipReset, Read, Write, Acknowledge, Pins, Tick}
 use Rattle.front.specs.Front.{frontAt}
-use Rattle.chip.specs.Alone.{handedAfter}
+use Rattle.chip_laws.specs.Alone.{handedAfter}
 use Rattle.demands.specs.Chip.{Channel, registerOf, andThen}
 use Rattle.demands.specs.Told.{levelsThen}
 use Rattle.demands.specs.Clocks.{frontThen, frontAfter, sideOf}

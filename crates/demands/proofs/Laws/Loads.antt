@@ -11,8 +11,8 @@ use borrow.Author.Tests.{ne-eqb, eqb-true}
 use Rattle.format.specs.declared.counts.Pulses.{Pulses}
 use Rattle.format.specs.declared.counts.Ticks.{Ticks}
 use Rattle.format.specs.Pick.{pick}
-use Rattle.counting.specs.declared.counting.Timer.{Timer}
-use Rattle.counting.specs.Counting.{withCount, withRunning, withPhases, modeOf, isTimer, pulsedBy}
+use Rattle.timer_state.specs.declared.counting.Timer.{Timer}
+use Rattle.timer_state.specs.Counting.{withCount, withRunning, withPhases, modeOf, isTimer, pulsedBy}
 use Rattle.timer.specs.Timer.{startedOf, modeChanged}
 use Rattle.timer.specs.Counts.{afterPulses, pulsesOf, Gone}
 use Rattle.timer.proofs.Counts.{counts, toggles, obeys}
@@ -21,7 +21,7 @@ use Rattle.front.specs.declared.front.Front.{Front}
 use Rattle.front.specs.Front.{frontAt}
 use Rattle.events.specs.declared.events.Event.{Event}
 use Rattle.events.specs.declared.events.Event.the-variants.{ChipReset, Read, Write, Acknowledge, Pins, Tick}
-use Rattle.demands.specs.Chip.{over, allOf}
+use Rattle.demands.specs.Chip.{over, eachOf}
 use Rattle.demands.specs.Clocks.{frontThen, frontAfter}
 use Rattle.demands.specs.Counter.{Elapsed, elapsedThen, leavesCounter, pulsesAfter, loads, Loaded}
 use Rattle.demands.proofs.Laws.Fronts.{front-read, front-written}
@@ -86,7 +86,7 @@ changed-went mode byte x f m d h p =
 
 -- ---- and what leaves it alone after it ----
 
-went-over : (mode base : ℕ) (before : Timer) (x : Elapsed) (f : Front) (fs : List Event) → Apart mode → allOf leavesCounter fs ≡ true
+went-over : (mode base : ℕ) (before : Timer) (x : Elapsed) (f : Front) (fs : List Event) → Apart mode → eachOf leavesCounter fs ≡ true
     → Went mode base before x f → Went mode base before (over (elapsedThen mode) x fs) (over frontThen f fs)
 went-over mode base before x f fs a l w =
     record { from = w .from; preload = w .preload; ready = w .ready; goes = goes-over mode base _ x f fs a l (w .goes) }

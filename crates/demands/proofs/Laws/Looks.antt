@@ -3,7 +3,7 @@
 use Prim.Native.Nat.{ℕ, zero, suc}
 use mathlib.Core.Path.{_≡_, refl, sym, _∙_, ap}
 use mathlib.Core.Bool.{true, true≢false}
-use mathlib.Core.List.{List}
+use mathlib.Core.List.{List, [], _∷_}
 use native.Mathlib.Omega.{arith}
 use borrow.Author.Tests.{ne-eqb}
 use Rattle.format.specs.Pick.{pick}
@@ -12,16 +12,16 @@ use Rattle.receiver_status.specs.Status.{statusOf}
 use Rattle.transmitter.specs.declared.status.TransmitterStatus.{TransmitterStatus}
 use Rattle.transmitter.specs.Status as Transmitters
 use Rattle.bytes.specs.Bytes.{hasBit}
-use Rattle.shown.specs.declared.shown.Shown.{Shown}
-use Rattle.shown.specs.Shown.{blockErrors, shownOf, channelShown}
-use Rattle.answers.specs.Answers.{isrOf}
+use Rattle.chip_shown.specs.declared.shown.Shown.{Shown}
+use Rattle.chip_shown.specs.Shown.{blockErrors, shownOf, channelShown}
+use Rattle.chip_answers.specs.Answers.{isrOf}
 use Rattle.events.specs.declared.events.Event.{Event}
-use Rattle.events.specs.declared.events.Event.the-variants.{Read}
-use Rattle.device.specs.declared.device.Device.{Device}
-use Rattle.device.specs.Device.{isSoundOf, deviceLines}
-use Rattle.duart.specs.Duart.{stepOf}
-use Rattle.chip.specs.Table.{row}
-use Rattle.chip.proofs.Table.{table}
+use Rattle.events.specs.declared.events.Event.the-variants.{Read, Write}
+use Rattle.chip_device.specs.declared.device.Device.{Device}
+use Rattle.chip_device.specs.Device.{isSoundOf, deviceLines}
+use Rattle.chip_step.specs.Chip.{stepOf}
+use Rattle.chip_laws.specs.Table.{row}
+use Rattle.chip_laws.proofs.Table.{table}
 use Rattle.demands.specs.Chip.{Chip, chipOf, Channel, ofChannel, registerOf, shows, statusBit, linesAfter}
 use Rattle.demands.specs.Chip.Channel.{A, B}
 use Rattle.demands.specs.Clocks.{frontAfter, sideOf}
@@ -30,6 +30,10 @@ use Rattle.demands.proofs.Laws.Bits.{bit-0, bit-1, bit-2, bit-3, bit-6}
 
 abbrev pub chip : Chip
 chip = chipOf stepOf
+
+-- IMR bit 0, and transmitter A enabled: ISR bit 0. Examples of met and of shut-out statements go by it.
+abbrev pub asking : List Event
+asking = Write 5 1 ∷ Write 2 4 ∷ []
 
 -- ---- a channel, after some events ----
 

@@ -9,8 +9,8 @@ use Rattle.format.specs.Pick.{pick}
 use Rattle.bytes.specs.Bytes.{hasBit, weightOf, byteOf}
 use Rattle.outputs.specs.declared.outputs.Outputs.{Outputs}
 use Rattle.outputs.specs.Outputs.{drivenBy, drivenOp3, opLevels}
-use Rattle.answers.specs.declared.answers.Lines.{Lines}
-use Rattle.answers.specs.Answers.{timerLevel, linesOf}
+use Rattle.chip_answers.specs.declared.answers.Lines.{Lines}
+use Rattle.chip_answers.specs.Answers.{timerLevel, linesOf}
 use Rattle.events.specs.declared.events.Event.{Event}
 use Rattle.demands.specs.Chip.{shows, linesAfter}
 use Rattle.demands.specs.Clocks.{frontAfter}

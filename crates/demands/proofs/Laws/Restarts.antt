@@ -8,7 +8,6 @@ use native.Mathlib.Omega.{arith}
 use native.Mathlib.Nat.{zero-mod}
 use lib.Dec.{eqb}
 use borrow.Author.Tests.{eqb-true, lt-ltb}
-use Rattle.format.specs.declared.counts.Ticks.{Ticks}
 use Rattle.format.specs.Pick.{pick}
 use Rattle.format.proofs.Laws.Pick.{pick-all}
 use Rattle.dividers.specs.declared.divider.Divided.{Divided}
@@ -16,15 +15,15 @@ use Rattle.dividers.specs.Rates.{periodOf}
 use Rattle.dividers.proofs.Laws.Divider.{ticksOf, divided-at}
 use Rattle.dividers.proofs.Laws.Rates.{period-between}
 use Rattle.clocks.specs.declared.channel.ClockEvent.{ClockEvent}
-use Rattle.clocks.specs.declared.channel.Clocked.{Clocked}
 use Rattle.clocks.specs.declared.channel.Phases.{Phases}
 use Rattle.clocks.specs.Channel.{restarted, restartedOnChange, tickedOf, clockedOf}
 use Rattle.clocks.specs.Channel as Channels
-use Rattle.clocks.specs.Pulses.{Side, codeOf, pulsed}
+use Rattle.clocks.specs.Pulses.{Side, codeOf}
 use Rattle.clocks.specs.Pulses.Side.{receives, transmits}
-use Rattle.side.specs.declared.side.Side as Sides
-use Rattle.side.specs.Side.{freshSide, modeWritten, csrWritten, setChanged, bufferWritten}
-use Rattle.commands.specs.Commands.{sideCommanded}
+use Rattle.clocks.proofs.Pulses.{phaseOf, sideIn}
+use Rattle.front_side.specs.declared.side.Side as Sides
+use Rattle.front_side.specs.Side.{freshSide, modeWritten, csrWritten, setChanged, bufferWritten}
+use Rattle.front_commands.specs.Commands.{sideCommanded}
 use Rattle.front.specs.declared.front.Front.{Front}
 use Rattle.front.specs.Front.{frontAt}
 use Rattle.events.specs.declared.events.Event.{Event}
@@ -33,18 +32,11 @@ use Rattle.demands.specs.Chip.{Channel, registerOf, over}
 use Rattle.demands.specs.Chip.Channel.{A, B}
 use Rattle.demands.specs.Told.{lastWritten}
 use Rattle.demands.specs.Clocks.{frontThen, frontAfter, sideOf, clocksOf, pulsedBy}
-use Rattle.demands.specs.Pulses.{Restarts, restartsThen, ticksAfter, isTick}
+use Rattle.demands.specs.Pulses.{Restarts, restartsThen, ticksAfter, tickEvent}
 use Rattle.demands.proofs.Laws.Fronts.{sideWritten, sideNext, side-next}
 use Rattle.demands.proofs.Laws.Told.{acr-next}
 
 -- ---- a side of a channel, on a code below 13 ----
-
-abbrev phaseOf : Side → Phases → Ticks
-phaseOf receives p = p .receiver
-phaseOf transmits p = p .transmitter
-
-abbrev sideIn : Side → Clocked → Divided
-sideIn side c = record { phase = phaseOf side (c .phases); pulse = pulsed side c }
 
 -- a tick, so many of them after a restart
 clocked-tick : (side : Side) (p : Phases) (second : Bool) (csr k : ℕ) (b : ClockEvent) → codeOf side csr < 13 → b .tick ≡ true
@@ -244,7 +236,7 @@ told-over ch x f (e ∷ es) p = told-over ch (restartsThen ch x e) (frontThen f 
 
 pub fixed-pulse : (side : Side) (ch : Channel) (levels : ℕ) (es : List Event) (e : Event) → codeOf side (sideOf ch (frontAfter levels es) .csr) < 13
     → pulsedBy side ch (frontAfter levels es) e
-    ≡ (isTick e
+    ≡ (tickEvent e
     && eqb (suc (ticksAfter ch es) % periodOf (eqb (frontAfter levels es .acr / 128) 1) (codeOf side (sideOf ch (frontAfter levels es) .csr)) .0) 0)
 unfolding frontAt freshSide pulsedBy clocksOf
 fixed-pulse side ch levels es e h = go e
@@ -263,7 +255,7 @@ fixed-pulse side ch levels es e h = go e
     pulse d = d .pulse
 
     go : (e : Event)
-        → pulsedBy side ch f e ≡ (isTick e && eqb (suc (ticksAfter ch es) % periodOf (eqb (f .acr / 128) 1) (codeOf side (sideOf ch f .csr)) .0) 0)
+        → pulsedBy side ch f e ≡ (tickEvent e && eqb (suc (ticksAfter ch es) % periodOf (eqb (f .acr / 128) 1) (codeOf side (sideOf ch f .csr)) .0) 0)
     go ChipReset = refl
     go (Read n) = refl
     go (Write n byte) = refl

@@ -9,33 +9,32 @@ use lib.Dec.{eqb}
 use borrow.Author.Tests.{le-ltb}
 use Rattle.format.specs.Format.{formatOf}
 use Rattle.format.specs.Pick.{pick}
-use Rattle.arrivals.specs.declared.arrivals.Receiver.{Receiver}
-use Rattle.receiver.specs.declared.receiver.Feed.{Feed}
+use Rattle.receiver_state.specs.declared.arrivals.Receiver.{Receiver}
+use Rattle.feed.specs.declared.feed.Feed.{Feed}
 use Rattle.receiver.specs.Receiver.{readOf, fedOf}
 use Rattle.receiver.specs.Delivery as Receivers
-use Rattle.shown.specs.Shown.{channelShown}
+use Rattle.chip_shown.specs.Shown.{channelShown}
 use Rattle.front.specs.declared.front.Front.{Front}
 use Rattle.front.specs.declared.front.Handed.{Handed}
 use Rattle.front.proofs.Laws.Ranges.{front-shown, front-at-within}
-use Rattle.reads.specs.Reads.{sideRead, registerRead, frontData}
+use Rattle.front_reads.specs.Reads.{sideRead, registerRead, frontData}
 use Rattle.events.specs.declared.events.Event.{Event}
 use Rattle.events.specs.declared.events.Event.the-variants.{Read}
-use Rattle.events.specs.Refusals.{registerAbove15, forbiddenRead, forbiddenCommand}
 use Rattle.front_events.specs.FrontEvents.{frontStepped}
-use Rattle.front_events.specs.NotModelled.{settingNotModelled}
-use Rattle.answers.specs.Answers.{isrOf, registerData, eventData}
-use Rattle.device.specs.declared.device.Device.{Device}
-use Rattle.device.specs.Device.{isSoundOf, shownA, shownB}
-use Rattle.refusals.specs.Refusals.{acknowledgedUnasserted, firstOf}
-use Rattle.duart.specs.declared.duart.Answer.{Answer}
-use Rattle.duart.specs.Duart.{takenOf, acceptedOf, stepOf}
-use Rattle.duart.proofs.Laws.Table.{accepts}
-use Rattle.chip.specs.Alone.{handedAfter}
-use Rattle.chip.specs.Reset.{resetAt}
-use Rattle.chip.specs.Sound.{after}
-use Rattle.chip.proofs.Alone.{alone}
-use Rattle.chip.proofs.Quiet.{quiet}
-use Rattle.chip.proofs.Sound.{keeps-sound, stays-sound}
+use Rattle.chip_answers.specs.Answers.{isrOf, registerData, eventData}
+use Rattle.chip_device.specs.declared.device.Device.{Device}
+use Rattle.chip_device.specs.Device.{isSoundOf, shownA, shownB}
+use Rattle.chip_refusals.specs.Rows.{registerAbove15, forbiddenRead, forbiddenCommand, settingNotModelled, acknowledgedUnasserted}
+use Rattle.chip_refusals.specs.Refusals.{firstOf}
+use Rattle.chip_step.specs.declared.chip.Answer.{Answer}
+use Rattle.chip_step.specs.Chip.{takenOf, acceptedOf, stepOf}
+use Rattle.chip_step.proofs.Laws.Table.{accepts}
+use Rattle.chip_laws.specs.Alone.{handedAfter}
+use Rattle.chip_laws.specs.Reset.{resetAt}
+use Rattle.chip_laws.specs.Sound.{after}
+use Rattle.chip_laws.proofs.Alone.{alone}
+use Rattle.chip_laws.proofs.Quiet.{quiet}
+use Rattle.chip_laws.proofs.Sound.{keeps-sound, stays-sound}
 use Rattle.demands.specs.Chip.{Channel, ofChannel, registerOf, andThen, over}
 use Rattle.demands.specs.Chip.Channel.{A, B}
 use Rattle.demands.specs.Clocks.{frontThen, frontAfter, sideOf}

@@ -10,27 +10,27 @@ use borrow.Author.Tests.{eqb-true}
 use Rattle.format.specs.Digits.{bit}
 use Rattle.format.specs.Pick.{pick}
 use Rattle.format.proofs.Laws.Pick.{pick-all, pick-known}
-use Rattle.sending.specs.declared.sending.Standing.{Standing}
-use Rattle.sending.specs.declared.state.Transmitter.{Transmitter}
-use Rattle.sending.specs.State.{freshTransmitter}
+use Rattle.transmitter_state.specs.declared.sending.Standing.{Standing}
+use Rattle.transmitter_state.specs.declared.state.Transmitter.{Transmitter}
+use Rattle.transmitter_state.specs.State.{freshTransmitter}
 use Rattle.transmitter.specs.declared.transmitter.Input.{Input}
 use Rattle.transmitter.specs.declared.transmitter.Input.the-variants as Inputs
 use Rattle.transmitter.specs.Transmitter.{afterInput}
 use Rattle.transmitter.specs.Frames.{after, pulsesIn, line, noReset}
 use Rattle.clocks.specs.Pulses.Side.{transmits}
 use Rattle.inputs.specs.Inputs.{movedOf, pinsOfA, pinsOfB}
-use Rattle.side.specs.declared.side.Side.{Side}
-use Rattle.side.specs.Side.{freshSide, modeNotModelled, modeWritten, csrWritten, setChanged, bufferWritten}
-use Rattle.side_clocks.specs.Clocking.{transmitterPulsed}
-use Rattle.commands.specs.Commands.{transmitterEffect, transmitterEnabling, sideCommanded}
-use Rattle.events.specs.Refusals.{commandForbidden}
+use Rattle.front_side.specs.declared.side.Side.{Side}
+use Rattle.front_side.specs.Side.{freshSide, modeNotModelled, modeWritten, csrWritten, setChanged, bufferWritten}
+use Rattle.front_side_clocks.specs.Clocking.{transmitterPulsed}
+use Rattle.front_commands.specs.Commands.{transmitterEffect, transmitterEnabling, sideCommanded}
+use Rattle.events.specs.Command.{commandForbidden}
 use Rattle.front.specs.declared.front.Front.{Front}
 use Rattle.front.specs.Front.{frontAt}
 use Rattle.events.specs.declared.events.Event.{Event}
 use Rattle.events.specs.declared.events.Event.the-variants.{ChipReset, Read, Write, Acknowledge, Pins, Tick}
-use Rattle.answers.specs.Answers.{linesOf}
-use Rattle.duart.specs.Duart.{stepOf}
-use Rattle.demands.specs.Chip.{Channel, chipOf, registerOf, andThen, over, allOf}
+use Rattle.chip_answers.specs.Answers.{linesOf}
+use Rattle.chip_step.specs.Chip.{stepOf}
+use Rattle.demands.specs.Chip.{Channel, chipOf, registerOf, andThen, over, eachOf}
 use Rattle.demands.specs.Chip.Channel.{A, B}
 use Rattle.demands.specs.Told.{levelsThen}
 use Rattle.demands.specs.Clocks.{frontThen, frontAfter, sideOf, clocksOf, pulsedBy, pulsedAfter}
@@ -261,7 +261,7 @@ event-keeps levels ch es Tick h = pick-all (λ (xs : List Input). noReset xs ≡
 
 -- ---- and of a list of events ----
 
-pub keeps-from : (levels : ℕ) (ch : Channel) (before es : List Event) → allOf (keepsSending ch) es ≡ true
+pub keeps-from : (levels : ℕ) (ch : Channel) (before es : List Event) → eachOf (keepsSending ch) es ≡ true
     → noReset (inputsFrom levels ch before es) ≡ true
 unfolding inputsFrom
 keeps-from levels ch before [] h = refl

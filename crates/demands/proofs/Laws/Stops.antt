@@ -7,9 +7,9 @@ use mathlib.Core.List.{List, [], _∷_}
 use lib.Dec.{eqb}
 use Rattle.format.specs.Pick.{pick}
 use Rattle.format.proofs.Laws.Pick.{pick-all}
-use Rattle.counting.specs.declared.counting.Counted.{Counted}
-use Rattle.counting.specs.declared.counting.Timer.{Timer}
-use Rattle.counting.specs.Counting.{withReady, modeOf, isTimer, countedDown, transmitterPulses, counterPulsed, timerPulsed, pulsedBy}
+use Rattle.timer_state.specs.declared.counting.Counted.{Counted}
+use Rattle.timer_state.specs.declared.counting.Timer.{Timer}
+use Rattle.timer_state.specs.Counting.{withReady, modeOf, isTimer, countedDown, transmitterPulses, counterPulsed, timerPulsed, pulsedBy}
 use Rattle.timer.specs.Timer.{tickedBy, edgedBy, stoppedOf, transmittedBy}
 use Rattle.timer.proofs.Counts.{counts, obeys}
 use Rattle.timer.proofs.Sources.{leaves}
@@ -19,7 +19,7 @@ use Rattle.front.specs.Front.{withTimer}
 use Rattle.front_clocks.specs.Clocking.{countedOf}
 use Rattle.events.specs.declared.events.Event.{Event}
 use Rattle.events.specs.declared.events.Event.the-variants.{ChipReset, Read, Write, Acknowledge, Pins, Tick}
-use Rattle.demands.specs.Chip.{Channel, over, allOf}
+use Rattle.demands.specs.Chip.{Channel, over, eachOf}
 use Rattle.demands.specs.Chip.Channel.{A, B}
 use Rattle.demands.specs.Clocks.{frontThen, clocksOf}
 use Rattle.demands.specs.Counter.{leavesCounter}
@@ -68,7 +68,7 @@ halted-next n f e l h =
     go (Pins levels) l = clocked (frontMoved f levels) (f .inputs .levels) false _ _ (h .chosen) (h .stopped)
     go Tick l = clocked f (f .inputs .levels) true _ _ (h .chosen) (h .stopped)
 
-pub halted-over : (n : ℕ) (f : Front) (es : List Event) → allOf leavesCounter es ≡ true → Halted n f → Halted n (over frontThen f es)
+pub halted-over : (n : ℕ) (f : Front) (es : List Event) → eachOf leavesCounter es ≡ true → Halted n f → Halted n (over frontThen f es)
 unfolding over
 halted-over n f [] l h = h
 halted-over n f (e ∷ es) l h =
@@ -153,7 +153,7 @@ cleared-next f e l = rw (front-next f e, front-next (cleared f) e) (go e l)
     go (Pins levels) l = clocked-cleared (frontMoved f levels) (f .inputs .levels) false
     go Tick l = clocked-cleared f (f .inputs .levels) true
 
-pub cleared-over : (f g : Front) (es : List Event) → allOf leavesCounter es ≡ true → cleared f ≡ cleared g
+pub cleared-over : (f g : Front) (es : List Event) → eachOf leavesCounter es ≡ true → cleared f ≡ cleared g
     → cleared (over frontThen f es) ≡ cleared (over frontThen g es)
 unfolding over
 cleared-over f g [] l h = h

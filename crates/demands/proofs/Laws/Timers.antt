@@ -10,9 +10,9 @@ use Rattle.format.specs.declared.counts.Pulses.{Pulses}
 use Rattle.format.specs.declared.counts.Ticks.{Ticks}
 use Rattle.format.specs.Pick.{pick}
 use Rattle.format.proofs.Laws.Pick.{pick-all}
-use Rattle.counting.specs.declared.counting.Counted.{Counted}
-use Rattle.counting.specs.declared.counting.Timer.{Timer}
-use Rattle.counting.specs.Counting.{modeOf, pulsedBy}
+use Rattle.timer_state.specs.declared.counting.Counted.{Counted}
+use Rattle.timer_state.specs.declared.counting.Timer.{Timer}
+use Rattle.timer_state.specs.Counting.{modeOf, pulsedBy}
 use Rattle.timer.specs.Timer.{tickedBy, edgedBy, startedOf, stoppedOf, modeChanged}
 use Rattle.timer.proofs.Sources.{leaves, sources}
 use Rattle.inputs.specs.Inputs.{risesOf, movedOf}

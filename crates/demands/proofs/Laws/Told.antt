@@ -8,19 +8,19 @@ use lib.Dec.{eqb}
 use Rattle.format.specs.Format.{mr1NotModelled, mr2NotModelled}
 use Rattle.format.specs.Pick.{pick}
 use Rattle.format.proofs.Laws.Pick.{pick-all}
-use Rattle.sending.specs.declared.sending.Standing.{Standing}
-use Rattle.sending.specs.declared.state.Transmitter.{Transmitter}
-use Rattle.sending.specs.Sending.{begunOf, sentOnOf, heldHigh, pulsedOf}
+use Rattle.transmitter_state.specs.declared.sending.Standing.{Standing}
+use Rattle.transmitter_state.specs.declared.state.Transmitter.{Transmitter}
+use Rattle.transmitter_state.specs.Sending.{begunOf, sentOnOf, heldHigh, pulsedOf}
 use Rattle.transmitter.specs.declared.transmitter.Input.the-variants as Input
 use Rattle.transmitter.specs.Commands.{writtenOf, breakEnded, droppedOf, breakAsked}
 use Rattle.transmitter.specs.Transmitter.{afterInput}
 use Rattle.inputs.specs.declared.inputs.Inputs.{Inputs}
 use Rattle.inputs.specs.Inputs.{movedOf}
-use Rattle.side.specs.declared.side.Side.{Side}
-use Rattle.side.specs.Side.{freshSide, modeNotModelled, modeWritten, csrWritten, setChanged, bufferWritten}
-use Rattle.side_clocks.specs.Clocking.{transmitterPulsed}
-use Rattle.commands.specs.Commands.{transmitterEffect, transmitterEnabling, enabledAfter, sideCommanded}
-use Rattle.events.specs.Refusals.{commandForbidden}
+use Rattle.front_side.specs.declared.side.Side.{Side}
+use Rattle.front_side.specs.Side.{freshSide, modeNotModelled, modeWritten, csrWritten, setChanged, bufferWritten}
+use Rattle.front_side_clocks.specs.Clocking.{transmitterPulsed}
+use Rattle.front_commands.specs.Commands.{transmitterEffect, transmitterEnabling, enabledAfter, sideCommanded}
+use Rattle.events.specs.Command.{commandForbidden}
 use Rattle.front.specs.declared.front.Front.{Front}
 use Rattle.front.specs.Front.{frontAt}
 use Rattle.events.specs.declared.events.Event.{Event}

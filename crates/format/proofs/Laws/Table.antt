@@ -18,7 +18,7 @@ first : (a b : Bool) → a && b ≡ true → a ≡ true
 first true b e = refl
 first false b e = e
 
-rest : (a b : Bool) → a && b ≡ true → b ≡ true
+pub rest : (a b : Bool) → a && b ≡ true → b ≡ true
 rest true b e = e
 rest false true e = refl
 rest false false e = e

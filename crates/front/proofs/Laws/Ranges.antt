@@ -5,21 +5,21 @@ use mathlib.Core.Bool.{true, false, and-eq-true-iff}
 use native.Mathlib.Omega.{arith}
 use borrow.Author.Tests.{not-true, leb-true, le-leb}
 use lib.Dec.{leb}
-use Rattle.counting.specs.declared.counting.Timer.{Timer}
+use Rattle.timer_state.specs.declared.counting.Timer.{Timer}
 use Rattle.timer.specs.Sound.{timerInRange}
 use Rattle.timer.proofs.Laws.Ranges.{fresh-in-range}
 use Rattle.inputs.specs.declared.inputs.Inputs.{Inputs}
 use Rattle.outputs.specs.declared.outputs.Outputs.{Outputs}
 use Rattle.outputs.specs.Outputs.{opcrNotModelled}
-use Rattle.receiver.specs.Sound.{feedInRange}
-use Rattle.side.specs.declared.side.Side.{Side}
-use Rattle.side.specs.Sound.{sideInRange}
+use Rattle.feed.specs.Ranges.{feedInRange}
+use Rattle.front_side.specs.declared.side.Side.{Side}
+use Rattle.front_side.specs.Sound.{sideInRange}
 use Rattle.front.specs.declared.front.Front.{Front}
 use Rattle.front.specs.declared.front.Handed.{Handed}
 use Rattle.front.specs.declared.front.SideHanded.{SideHanded}
 use Rattle.front.specs.Front.{frontAt, withSides, withPorts, handedNothing, handedA, handedB}
 use Rattle.front.specs.Sound.{frontInRange}
-use Rattle.side.proofs.Laws.Ranges.{SideWithin, HandsWithin, side-told, side-shown, fresh-side-within}
+use Rattle.front_side.proofs.Laws.Ranges.{SideWithin, HandsWithin, side-told, side-shown, fresh-side-within}
 
 -- the ranges, a part a field
 pub record FrontWithin (f : Front) : Type 0 where

@@ -4,19 +4,19 @@ use Prim.Native.Nat.{ℕ}
 use mathlib.Core.Path.{_≡_}
 use mathlib.Core.Bool.{Bool, true, false}
 use Rattle.format.proofs.Laws.Pick.{pick-all}
-use Rattle.counting.specs.declared.counting.Counted.{Counted}
-use Rattle.counting.specs.declared.counting.Timer.{Timer}
-use Rattle.counting.specs.Counting.{modeOf}
+use Rattle.timer_state.specs.declared.counting.Counted.{Counted}
+use Rattle.timer_state.specs.declared.counting.Timer.{Timer}
+use Rattle.timer_state.specs.Counting.{modeOf}
 use Rattle.timer.specs.Sound.{timerInRange}
 use Rattle.timer.proofs.Laws.Ranges.{ticked-kept, edged-kept, transmitted-kept}
 use Rattle.inputs.specs.Inputs.{risesOf, movedOf}
-use Rattle.side_clocks.specs.declared.clocking.Clocking.{Clocking}
+use Rattle.front_side_clocks.specs.declared.clocking.Clocking.{Clocking}
 use Rattle.front.specs.declared.front.Front.{Front}
 use Rattle.front_clocks.specs.Clocking.{countedOf, clockedWith, clockedOf, tickedOf, levelsMoved}
 use Rattle.front.specs.Front.{withPorts}
 use Rattle.inputs.proofs.Laws.Ranges.{moved-most}
-use Rattle.side.proofs.Laws.Ranges.{HandsWithin}
-use Rattle.side_clocks.proofs.Laws.Ranges.{clocked-within}
+use Rattle.front_side.proofs.Laws.Ranges.{HandsWithin}
+use Rattle.front_side_clocks.proofs.Laws.Ranges.{clocked-within}
 use Rattle.front.proofs.Laws.Ranges.{FrontWithin, HandedWithin, sides-within, ports-within}
 
 counted-in-range : (f : Front) (before : ℕ) (tick : Bool) → FrontWithin f → timerInRange (countedOf f before tick .timer) ≡ true

@@ -12,8 +12,9 @@ use borrow.Author.Tests.{eqb-true, leb-true, leb-false}
 use Rattle.format.specs.Pick.{pick}
 use Rattle.format.proofs.Laws.Pick.{pick-all}
 use Rattle.character.specs.declared.character.Character.{Character}
+use Rattle.character.specs.Character.{noMarks, unmarkedOf}
 use Rattle.queue.specs.declared.queue.Queue.{Queue}
-use Rattle.queue.specs.Queue.{put, withoutWaiting, took, replaced, heldOf, emptyQueue, isEmptyOf, oldestOf, putOf, withoutWaitingOf, tookOf, replacedOf}
+use Rattle.queue.specs.Queue.{put, withoutWaiting, took, replaced, topMarks, topUnmarked, heldOf, emptyQueue, isEmptyOf, oldestOf, putOf, withoutWaitingOf, tookOf, replacedOf}
 
 -- what holds at the numbers up to three, or up to four
 to-three : (P : ℕ → Type 0) → P 0 → P 1 → P 2 → P 3 → (n : ℕ) → n ≤ 3 → P n
@@ -86,6 +87,23 @@ is-empty-held q = (empty, λ e. go (isEmptyOf q) refl e)
     go : (t : Bool) → isEmptyOf q ≡ t → heldOf q ≡ [] → t ≡ true
     go true e h = refl
     go false e h = absurd (cons≢nil (sym (oldest-held q e) ∙ h))
+
+-- ---- the oldest ----
+
+pub held-marks : (q : Queue) → pick (isEmptyOf q) noMarks (oldestOf q .marks) ≡ topMarks (heldOf q)
+unfolding pick
+held-marks q = go (isEmptyOf q) refl
+  where
+    go : (t : Bool) → isEmptyOf q ≡ t → pick t noMarks (oldestOf q .marks) ≡ topMarks (heldOf q)
+    go true e = rw (is-empty-held q .0 e)
+    go false e = rw (oldest-held q e)
+
+pub held-unmarked : (q : Queue) → heldOf (replacedOf q (unmarkedOf (oldestOf q))) ≡ topUnmarked (heldOf q)
+held-unmarked q = held-replaced q (unmarkedOf (oldestOf q)) ∙ go (isEmptyOf q) refl
+  where
+    go : (t : Bool) → isEmptyOf q ≡ t → replaced (heldOf q) (unmarkedOf (oldestOf q)) ≡ topUnmarked (heldOf q)
+    go true e = rw (is-empty-held q .0 e)
+    go false e = rw (oldest-held q e)
 
 -- ---- the counts ----
 

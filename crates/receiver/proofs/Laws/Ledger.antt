@@ -9,9 +9,7 @@ use lib.Dec.{leb, ltb}
 use lib.ListN.{length, take}
 use borrow.Author.Tests.{lt-ltb, le-ltb, leb-true, leb-false}
 use Rattle.character.specs.declared.character.Character.{Character}
-use Rattle.character.specs.declared.character.Marks.{Marks}
-use Rattle.character.specs.Character.{noMarks, unmarkedOf}
-use Rattle.queue.specs.Queue.{put, waits, took}
+use Rattle.queue.specs.Queue.{put, waits, took, topMarks, topUnmarked}
 use Rattle.receiver.specs.Delivery.{Fate, Entry, meets, dropAll, clears, overruns, live, asArrived, lessCleared, known, oldestKnown, fatedBy}
 use Rattle.receiver.specs.Delivery.Entry.{entry}
 use Rattle.receiver.specs.Delivery.Fate.{Held, WasRead, Overrun, Dropped}
@@ -33,12 +31,7 @@ tells-fates (dropped t) = tells-fates t
 tells-fates (read t) = rw (tells-fates t)
 tells-fates (held t) = rw (tells-fates t)
 
--- the marks of the first, 0 if there is none
-abbrev pub firstMarks : List Character → Marks
-firstMarks [] = noMarks
-firstMarks (c ∷ h) = c .marks
-
-pub tells-marks : {l : List Entry} {r h : List Character} → Tells l r h → oldestKnown l ≡ firstMarks h
+pub tells-marks : {l : List Entry} {r h : List Character} → Tells l r h → oldestKnown l ≡ topMarks h
 tells-marks nothing = refl
 tells-marks (overrun t) = tells-marks t
 tells-marks (dropped t) = tells-marks t
@@ -68,12 +61,7 @@ tells-dropped (dropped t) = dropped (tells-dropped t)
 tells-dropped (read t) = read (tells-dropped t)
 tells-dropped (held t) = dropped (tells-dropped t)
 
--- the first without its marks
-abbrev pub firstCleared : List Character → List Character
-firstCleared [] = []
-firstCleared (c ∷ h) = unmarkedOf c ∷ h
-
-pub tells-cleared : {l : List Entry} {r h : List Character} → Tells l r h → Tells (clears l) r (firstCleared h)
+pub tells-cleared : {l : List Entry} {r h : List Character} → Tells l r h → Tells (clears l) r (topUnmarked h)
 tells-cleared nothing = nothing
 tells-cleared (overrun t) = overrun (tells-cleared t)
 tells-cleared (dropped t) = dropped (tells-cleared t)

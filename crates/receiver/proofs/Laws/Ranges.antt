@@ -6,27 +6,29 @@ use mathlib.Core.Bool.{Bool, true, false, and-eq-true-iff}
 use native.Mathlib.Omega.{arith}
 use borrow.Author.Tests.{leb-true, le-leb}
 use Rattle.format.proofs.Laws.Pick.{pick-all}
-use Rattle.assembly.specs.declared.state.Setting.{Setting}
-use Rattle.hunting.specs.declared.hunting.Came.{Came}
-use Rattle.hunting.specs.declared.hunting.Came.the-variants.{NoCharacter, Arrival}
-use Rattle.hunting.specs.declared.hunting.Sampled.{Sampled}
+use Rattle.feed.specs.declared.feed.Setting.{Setting}
+use Rattle.sampler_hunting.specs.declared.hunting.Came.{Came}
+use Rattle.sampler_hunting.specs.declared.hunting.Came.the-variants.{NoCharacter, Arrival}
+use Rattle.sampler_hunting.specs.declared.hunting.Sampled.{Sampled}
 use Rattle.sampler.specs.Sampler.{sampleOf}
-use Rattle.sampler.specs.Sound.{settingInRange, samplerInRange}
+use Rattle.sampler.specs.Sound.{samplerInRange}
+use Rattle.feed.specs.Ranges.{settingInRange}
 use Rattle.sampler.proofs.Laws.Ranges.{sample-keeps, hunting-keeps}
 use Rattle.queue.specs.Queue.{isEmptyOf}
 use Rattle.queue.proofs.Laws.Queue.{put-four, without-waiting-count, took-count}
-use Rattle.arrivals.specs.declared.arrivals.Receiver.{Receiver}
-use Rattle.arrivals.specs.Arrivals.{heardOf, startedOf, enteredOf, arrivedOf, pulsedOf}
-use Rattle.receiver_commands.specs.declared.commands.Effect.{Effect}
-use Rattle.receiver_commands.specs.declared.commands.Effect.the-variants.{NoEffect, Reset, ClearErrors, ClearBreakChange}
-use Rattle.receiver_commands.specs.declared.commands.Enabling.{Enabling}
-use Rattle.receiver_commands.specs.declared.commands.Enabling.the-variants.{Stays, Enables, Disables}
+use Rattle.receiver_state.specs.declared.arrivals.Receiver.{Receiver}
+use Rattle.receiver_state.specs.Arrivals.{heardOf, startedOf, enteredOf, arrivedOf, pulsedOf}
+use Rattle.feed.specs.declared.feed.Effect.{Effect}
+use Rattle.feed.specs.declared.feed.Effect.the-variants.{NoEffect, Reset, ClearErrors, ClearBreakChange}
+use Rattle.feed.specs.declared.feed.Enabling.{Enabling}
+use Rattle.feed.specs.declared.feed.Enabling.the-variants.{Stays, Enables, Disables}
 use Rattle.receiver_commands.specs.Commands.{effectOf, enablingOf}
 use Rattle.receiver.specs.declared.receiver.Fed.{Fed}
-use Rattle.receiver.specs.declared.receiver.Feed.{Feed}
-use Rattle.receiver.specs.declared.receiver.Feed.the-variants.{Nothing, Pulse, Command, Read, ChipReset}
+use Rattle.feed.specs.declared.feed.Feed.{Feed}
+use Rattle.feed.specs.declared.feed.Feed.the-variants.{Nothing, Pulse, Command, Read, ChipReset}
 use Rattle.receiver.specs.Receiver.{oldestRead, readOf, fedOf}
-use Rattle.receiver.specs.Sound.{receiverInRange, feedInRange}
+use Rattle.receiver.specs.Sound.{receiverInRange}
+use Rattle.feed.specs.Ranges.{feedInRange}
 
 record Inside (r : Receiver) : Type 0 where
   sampler : samplerInRange (r .sampler) ≡ true

@@ -5,13 +5,14 @@ use mathlib.Core.List.{List, [], _∷_}
 use Rattle.format.specs.Format.{formatOf}
 use Rattle.sampler.specs.Sound.{samplerInRange}
 use Rattle.queue.specs.Sound.{queueInRange}
-use Rattle.arrivals.specs.declared.arrivals.Receiver.{Receiver}
-use Rattle.arrivals.specs.Arrivals.{freshReceiver}
-use Rattle.receiver.specs.declared.receiver.Feed.{Feed}
-use Rattle.receiver.specs.declared.receiver.Feed.the-variants.{ChipReset}
+use Rattle.receiver_state.specs.declared.arrivals.Receiver.{Receiver}
+use Rattle.receiver_state.specs.Arrivals.{freshReceiver}
+use Rattle.feed.specs.declared.feed.Feed.{Feed}
+use Rattle.feed.specs.declared.feed.Feed.the-variants.{ChipReset}
 use Rattle.receiver.specs.Receiver.{fedOf}
 use Rattle.receiver.specs.Delivery.{after}
-use Rattle.receiver.specs.Sound.{feedInRange, feedsInRange, Sound, KeepsSound}
+use Rattle.receiver.specs.Sound.{feedsInRange, Sound, KeepsSound}
+use Rattle.feed.specs.Ranges.{feedInRange}
 use Rattle.receiver.proofs.Laws.Ranges.{ranges-kept}
 use Rattle.receiver.proofs.Laws.Waiting.{waiting-kept}
 

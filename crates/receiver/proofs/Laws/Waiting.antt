@@ -8,24 +8,24 @@ use lib.Dec.{eqb, leb}
 use borrow.Author.Tests.{le-leb, leb-true, leb-false, lt-leb, not-true}
 use Rattle.format.specs.Pick.{pick}
 use Rattle.format.proofs.Laws.Pick.{pick-all}
-use Rattle.hunting.specs.declared.hunting.Came.{Came}
-use Rattle.hunting.specs.declared.hunting.Came.the-variants.{NoCharacter, Arrival}
-use Rattle.hunting.specs.declared.hunting.Sampled.{Sampled}
+use Rattle.sampler_hunting.specs.declared.hunting.Came.{Came}
+use Rattle.sampler_hunting.specs.declared.hunting.Came.the-variants.{NoCharacter, Arrival}
+use Rattle.sampler_hunting.specs.declared.hunting.Sampled.{Sampled}
 use Rattle.sampler.specs.Sampler.{sampleOf}
 use Rattle.sampler.proofs.Laws.Room.{most, most-four, cut, grown, Roomy, room-sample}
 use Rattle.queue.specs.Queue.{isEmptyOf}
 use Rattle.queue.specs.Sound.{queueInRange}
 use Rattle.queue.proofs.Laws.Queue.{put-count, without-waiting-count, took-count}
-use Rattle.arrivals.specs.declared.arrivals.Receiver.{Receiver}
-use Rattle.arrivals.specs.Arrivals.{answeredOf, heardOf, startedOf, enteredOf, arrivedOf, pulsedOf}
-use Rattle.receiver_commands.specs.declared.commands.Effect.{Effect}
-use Rattle.receiver_commands.specs.declared.commands.Effect.the-variants.{NoEffect, Reset, ClearErrors, ClearBreakChange}
-use Rattle.receiver_commands.specs.declared.commands.Enabling.{Enabling}
-use Rattle.receiver_commands.specs.declared.commands.Enabling.the-variants.{Stays, Enables, Disables}
+use Rattle.receiver_state.specs.declared.arrivals.Receiver.{Receiver}
+use Rattle.receiver_state.specs.Arrivals.{answeredOf, heardOf, startedOf, enteredOf, arrivedOf, pulsedOf}
+use Rattle.feed.specs.declared.feed.Effect.{Effect}
+use Rattle.feed.specs.declared.feed.Effect.the-variants.{NoEffect, Reset, ClearErrors, ClearBreakChange}
+use Rattle.feed.specs.declared.feed.Enabling.{Enabling}
+use Rattle.feed.specs.declared.feed.Enabling.the-variants.{Stays, Enables, Disables}
 use Rattle.receiver_commands.specs.Commands.{effectOf, enablingOf}
 use Rattle.receiver.specs.declared.receiver.Fed.{Fed}
-use Rattle.receiver.specs.declared.receiver.Feed.{Feed}
-use Rattle.receiver.specs.declared.receiver.Feed.the-variants.{Nothing, Pulse, Command, Read, ChipReset}
+use Rattle.feed.specs.declared.feed.Feed.{Feed}
+use Rattle.feed.specs.declared.feed.Feed.the-variants.{Nothing, Pulse, Command, Read, ChipReset}
 use Rattle.receiver.specs.Receiver.{oldestRead, readOf, fedOf}
 use Rattle.receiver.specs.Sound.{waitingSound}
 

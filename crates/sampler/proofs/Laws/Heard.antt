@@ -17,14 +17,14 @@ use Rattle.format.specs.Parity.{dataBits, parityBits}
 use Rattle.frame.specs.Levels.{beforeStop, spread, levels}
 use Rattle.character.specs.declared.character.Character.{Character}
 use Rattle.character.specs.Character.{clean}
-use Rattle.assembly.specs.declared.state.Sampler.{Sampler}
-use Rattle.assembly.specs.declared.state.Setting.{Setting}
-use Rattle.assembly.specs.Assembly.{samplesOf, withSample, characterOf}
-use Rattle.assembly.specs.State.{hunting, assembling, gapOf, afterStop}
-use Rattle.assembly.proofs.Laws.Assembly.{samples-are, with-sample-small, with-sample-adds, sampled-clean}
-use Rattle.hunting.specs.declared.hunting.Came.{Came}
-use Rattle.hunting.specs.declared.hunting.Came.the-variants.{NoCharacter, Arrival}
-use Rattle.hunting.specs.Hunting.{lowAt, hunted, lookedAgain}
+use Rattle.sampler_state.specs.declared.state.Sampler.{Sampler}
+use Rattle.feed.specs.declared.feed.Setting.{Setting}
+use Rattle.sampler_state.specs.Assembly.{samplesOf, withSample, characterOf}
+use Rattle.sampler_state.specs.State.{hunting, assembling, gapOf, afterStop}
+use Rattle.sampler_state.proofs.Laws.Assembly.{samples-are, with-sample-small, with-sample-adds, sampled-clean}
+use Rattle.sampler_hunting.specs.declared.hunting.Came.{Came}
+use Rattle.sampler_hunting.specs.declared.hunting.Came.the-variants.{NoCharacter, Arrival}
+use Rattle.sampler_hunting.specs.Hunting.{lowAt, hunted, lookedAgain}
 use Rattle.sampler.specs.Sampler.{finished, sampled, assembled, sampleOf}
 use Rattle.sampler.specs.Lines.{at16}
 

@@ -13,15 +13,16 @@ use Rattle.format.specs.declared.counts.Pulses.{Pulses}
 use Rattle.format.specs.Pick.{pick}
 use Rattle.format.specs.Format.{formatOf}
 use Rattle.format.proofs.Laws.Pick.{pick-all}
-use Rattle.assembly.specs.declared.state.Sampler.{Sampler}
-use Rattle.assembly.specs.declared.state.Setting.{Setting}
-use Rattle.assembly.specs.Assembly.{samplesOf, withSample}
-use Rattle.assembly.specs.State.{emptyAt, hunting, starting, assembling, gapOf, afterStop}
-use Rattle.assembly.proofs.Laws.Assembly.{samples-most, with-sample-small}
-use Rattle.hunting.specs.declared.hunting.Sampled.{Sampled}
-use Rattle.hunting.specs.Hunting.{confirmed, lowAt, hunted, lookedAgain, followed, waited}
+use Rattle.sampler_state.specs.declared.state.Sampler.{Sampler}
+use Rattle.feed.specs.declared.feed.Setting.{Setting}
+use Rattle.sampler_state.specs.Assembly.{samplesOf, withSample}
+use Rattle.sampler_state.specs.State.{emptyAt, hunting, starting, assembling, gapOf, afterStop}
+use Rattle.sampler_state.proofs.Laws.Assembly.{samples-most, with-sample-small}
+use Rattle.sampler_hunting.specs.declared.hunting.Sampled.{Sampled}
+use Rattle.sampler_hunting.specs.Hunting.{confirmed, lowAt, hunted, lookedAgain, followed, waited}
 use Rattle.sampler.specs.Sampler.{finished, sampled, assembled, sampleOf}
-use Rattle.sampler.specs.Sound.{settingInRange, samplerInRange}
+use Rattle.sampler.specs.Sound.{samplerInRange}
+use Rattle.feed.specs.Ranges.{settingInRange}
 
 -- the ranges as inequalities
 record Within (s : Sampler) : Type 0 where

@@ -6,14 +6,14 @@ use native.Mathlib.Omega.{arith}
 use lib.Dec.{eqb, ltb}
 use Rattle.format.specs.Pick.{pick}
 use Rattle.format.proofs.Laws.Pick.{pick-all}
-use Rattle.assembly.specs.declared.state.Sampler.{Sampler}
-use Rattle.assembly.specs.declared.state.Setting.{Setting}
-use Rattle.assembly.specs.Assembly.{samplesOf}
-use Rattle.assembly.specs.State.{afterStop}
-use Rattle.hunting.specs.declared.hunting.Came.{Came}
-use Rattle.hunting.specs.declared.hunting.Came.the-variants.{NoCharacter, Arrival}
-use Rattle.hunting.specs.declared.hunting.Sampled.{Sampled}
-use Rattle.hunting.specs.Hunting.{confirmed, lowAt, hunted, lookedAgain, followed, waited}
+use Rattle.sampler_state.specs.declared.state.Sampler.{Sampler}
+use Rattle.feed.specs.declared.feed.Setting.{Setting}
+use Rattle.sampler_state.specs.Assembly.{samplesOf}
+use Rattle.sampler_state.specs.State.{afterStop}
+use Rattle.sampler_hunting.specs.declared.hunting.Came.{Came}
+use Rattle.sampler_hunting.specs.declared.hunting.Came.the-variants.{NoCharacter, Arrival}
+use Rattle.sampler_hunting.specs.declared.hunting.Sampled.{Sampled}
+use Rattle.sampler_hunting.specs.Hunting.{confirmed, lowAt, hunted, lookedAgain, followed, waited}
 use Rattle.sampler.specs.Sampler.{arrived, finished, sampled, assembled, sampleOf}
 
 -- three while a confirmed start is under way, else four

@@ -8,9 +8,9 @@ use lib.Dec.{eqb, leb}
 use borrow.Author.Tests.{leb-true, le-leb}
 use Rattle.format.proofs.Laws.Pick.{pick-all}
 use Rattle.dividers.proofs.Laws.Ranges.{divided-most, sixteenth-most}
-use Rattle.counting.specs.declared.counting.Counted.{Counted}
-use Rattle.counting.specs.declared.counting.Timer.{Timer}
-use Rattle.counting.specs.Counting.{freshTimer, modeOf, isTimer, countedDown, counterPulsed, timerPulsed, pulsedBy}
+use Rattle.timer_state.specs.declared.counting.Counted.{Counted}
+use Rattle.timer_state.specs.declared.counting.Timer.{Timer}
+use Rattle.timer_state.specs.Counting.{freshTimer, modeOf, isTimer, countedDown, counterPulsed, timerPulsed, pulsedBy}
 use Rattle.timer.specs.Timer.{tickedBy, edgedBy, transmittedBy, startedOf, stoppedOf, modeChanged}
 use Rattle.timer.specs.Sound.{timerInRange, KeepsTimer}
 

@@ -12,10 +12,10 @@ use Rattle.format.specs.Format.{formatOf, stopCodeOf}
 use Rattle.format.proofs.Laws.Pick.{pick-all}
 use Rattle.frame.specs.Levels.{frameLengthOf}
 use Rattle.frame.proofs.Laws.Levels.{length-most}
-use Rattle.sending.specs.declared.sending.Standing.{Standing}
-use Rattle.sending.specs.declared.state.Transmitter.{Transmitter}
-use Rattle.sending.specs.State.{freshTransmitter}
-use Rattle.sending.specs.Sending.{canStart, takenOf, idleOf, begunOf, sentOnOf, heldHigh, pulsedOf}
+use Rattle.transmitter_state.specs.declared.sending.Standing.{Standing}
+use Rattle.transmitter_state.specs.declared.state.Transmitter.{Transmitter}
+use Rattle.transmitter_state.specs.State.{freshTransmitter}
+use Rattle.transmitter_state.specs.Sending.{canStart, takenOf, idleOf, begunOf, sentOnOf, heldHigh, pulsedOf}
 use Rattle.transmitter.specs.declared.transmitter.Input.{Input}
 use Rattle.transmitter.specs.declared.transmitter.Input.the-variants.{Nothing, Pulse, Write, Enable, Disable, StartBreak, StopBreak, Reset, ChipReset}
 use Rattle.transmitter.specs.Commands.{writtenOf, breakEnded, droppedOf, breakAsked}

@@ -1,6 +1,6 @@
 -- `request_frame` meets its contract: the answer is the definition's, and as many levels as it says, the whole frame or none, are written.
 -- Assumes nothing.
-use mathlib.Core.Path.{_≡_, ap, _∙_}
+use mathlib.Core.Path.{_≡_, ap}
 use native.Mathlib.Omega.{arith}
 use lib.ListN.{length}
 use denote.Ref.{now}

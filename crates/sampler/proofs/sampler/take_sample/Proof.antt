@@ -7,8 +7,8 @@ use lib.Pow.{pow-pos, pow-mono}
 use borrow.Author.Needs.{needs}
 use Rattle.format.proofs.Laws.Digits.{power}
 use Rattle.format.proofs.Laws.{steps}
-use Rattle.assembly.specs.Assembly.{withSample}
-use Rattle.assembly.proofs.Laws.Assembly.{samples-most}
+use Rattle.sampler_state.specs.Assembly.{withSample}
+use Rattle.sampler_state.proofs.Laws.Assembly.{samples-most}
 use Rattle.sampler.specs.Sampler.{sampled}
 use Rattle.sampler.proofs.sampler.take_sample.Statement.{statement}
 use Rattle.sampler.proofs.sampler.take_sample.Tie as tie

@@ -1,2 +1,0 @@
--- The laws that the theorems go by, a file a topic. Assumes nothing.
-pub mod Lists

@@ -1,0 +1,10 @@
+-- `timer_in_range` meets its contract: its tests are the definition's. Assumes nothing.
+use borrow.Author.Needs.{needs}
+use Rattle.chip_soundness.proofs.soundness.timer_in_range.Statement.{statement}
+use Rattle.chip_soundness.proofs.soundness.timer_in_range.Tie as tie
+
+returns : tie.Need-returns
+returns c = search needs
+
+pub timer-in-range-spec : {M : Type 1} → statement M
+timer-in-range-spec = tie.close (tie.spec returns)

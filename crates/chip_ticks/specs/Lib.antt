@@ -1,0 +1,2 @@
+-- What a reader must believe of many ticks in a row.
+pub mod Ticks

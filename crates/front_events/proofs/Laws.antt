@@ -1,2 +1,0 @@
--- The laws of the events. Assumes nothing.
-pub mod Ranges

@@ -1,0 +1,24 @@
+-- `pulse_transmitter` meets its contract: each way through the tests is the definition's, with the callee's answer. Assumes nothing.
+use Prim.{tt}
+use Rattle.front_side_clocks.proofs.clocking.pulse_transmitter.Statement.{statement}
+use Rattle.front_side_clocks.proofs.clocking.pulse_transmitter.Tie as tie
+use Rattle.format.proofs.Laws.{steps}
+use Rattle.front_side_clocks.specs.Clocking.{transmitterPulsed}
+
+is-sixteen-requires : tie.Need-is-sixteen-requires
+is-sixteen-requires c κs = tt
+
+step-transmitter-requires : tie.Need-step-transmitter-requires
+step-transmitter-requires c κs = tt
+
+returns : tie.Need-returns
+unfolding transmitterPulsed
+returns c = simp (c .step-transmitter .ensures, c .before .is-sixteen .ensures) (search steps)
+
+returns-2 : tie.Need-returns-2
+unfolding transmitterPulsed
+returns-2 c = search steps
+
+pub pulse-transmitter-spec : {M : Type 1} → statement M
+pulse-transmitter-spec =
+    tie.close (tie.spec is-sixteen-requires step-transmitter-requires returns returns-2)

@@ -1,0 +1,16 @@
+-- `preload_high` meets its contract: the definition's sum. Assumes nothing.
+use borrow.Author.Needs.{needs}
+use Rattle.front_writes.proofs.writes.preload_high.Statement.{statement}
+use Rattle.front_writes.proofs.writes.preload_high.Tie as tie
+
+mul-result : tie.Need-mul-result
+mul-result c = search needs
+
+add-result : tie.Need-add-result
+add-result c = search needs
+
+returns : tie.Need-returns
+returns c = search needs
+
+pub preload-high-spec : {M : Type 1} → statement M
+preload-high-spec = tie.close (tie.spec mul-result add-result returns)

@@ -1,0 +1,2 @@
+-- What a reader must believe of the frame lister's lines.
+pub mod Line

@@ -1,0 +1,20 @@
+-- `line_after` meets its contract: each way through the test is the definition's. Assumes nothing.
+use borrow.Author.Needs.{needs}
+use Rattle.replay_script.proofs.place.line_after.Statement.{statement}
+use Rattle.replay_script.proofs.place.line_after.Tie as tie
+use Rattle.format.proofs.Laws.{steps}
+use Rattle.replay_script.specs.Place.{lineAfter}
+
+add-result : tie.Need-add-result
+add-result c = search needs
+
+returns : tie.Need-returns
+unfolding lineAfter
+returns c = search steps
+
+returns-2 : tie.Need-returns-2
+unfolding lineAfter
+returns-2 c = search steps
+
+pub line-after-spec : {M : Type 1} → statement M
+line-after-spec = tie.close (tie.spec add-result returns returns-2)

@@ -1,0 +1,54 @@
+-- `write_seen` meets its contract: each part is put after those before it. Assumes nothing.
+use mathlib.Core.Path.{sym, _∙_}
+use lib.Seq.{length-take-le}
+use borrow.Author.Needs.{needs}
+use Rattle.replay_text.proofs.text.write_seen.Statement.{statement}
+use Rattle.replay_text.proofs.text.write_seen.Tie as tie
+
+put-byte-requires : tie.Need-put-byte-requires
+put-byte-requires c κs = search needs
+
+put-byte-requires-2 : tie.Need-put-byte-requires-2
+put-byte-requires-2 c κs = search needs
+
+put-flag-requires : tie.Need-put-flag-requires
+put-flag-requires c κs = search needs
+
+put-flag-requires-2 : tie.Need-put-flag-requires-2
+put-flag-requires-2 c κs = search needs
+
+put-flag-requires-3 : tie.Need-put-flag-requires-3
+put-flag-requires-3 c κs = search needs
+
+put-byte-requires-3 : tie.Need-put-byte-requires-3
+put-byte-requires-3 c κs = search needs
+
+returns : tie.Need-returns
+returns c =
+    let txdb = c .before .before in
+    let txda = txdb .before .before in
+    let irq = txda .before .before in
+    let byte = irq .before .before in
+    let number = byte .before .before in (
+      (c .put-byte3 .ensures .1 .1, sym (length-take-le (c .put-byte3 .result) (c .put-byte3 .last .1 .1 .1 .0) (c .put-byte3 .ensures .1 .1))),
+      c .put-byte3 .ensures .1 .0
+          ∙ rw (
+            txdb .put-flag3 .ensures .1,
+            txda .put-flag2 .ensures .1,
+            irq .put-flag .ensures .1,
+            byte .put-byte2 .ensures .1 .0,
+            number .put-byte .ensures .1 .0,
+          ),
+    )
+
+pub write-seen-spec : {M : Type 1} → statement M
+write-seen-spec =
+    tie.close
+    (tie.spec
+    put-byte-requires
+    put-byte-requires-2
+    put-flag-requires
+    put-flag-requires-2
+    put-flag-requires-3
+    put-byte-requires-3
+    returns)

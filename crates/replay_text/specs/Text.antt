@@ -1,0 +1,39 @@
+-- The text of what is answered. Assumes nothing.
+use Prim.Native.Nat.{ℕ, zero, suc, _+_, _/_, _%_, _≤_}
+use mathlib.Core.Path.{_≡_}
+use mathlib.Core.Bool.{Bool}
+use mathlib.Core.List.{List, [], _∷_, _++_}
+use lib.Dec.{ltb}
+use lib.ListN.{length, take}
+use Rattle.format.specs.Pick.{pick}
+use Rattle.format.specs.Digits.{digitOf}
+
+-- a number in decimal, the first digit first and with no zero before it, if it has at most so many places; 48 is the
+-- digit 0
+unfoldable pub decimalOf : ℕ → ℕ → List ℕ
+decimalOf zero n = []
+decimalOf (suc k) n = pick (ltb n 10) ((48 + n) ∷ []) (decimalOf k (n / 10) ++ (48 + n % 10) ∷ [])
+
+abbrev pub flagText : Bool → List ℕ
+flagText flag = digitOf flag ∷ []
+
+-- the line of an answer, in decimal: a byte has at most three places; 32 is a space, 10 ends the line
+abbrev pub seenText : ℕ → ℕ → Bool → Bool → Bool → ℕ → List ℕ
+seenText number byte irq txda txdb op =
+    decimalOf 3 number ++ 32 ∷ [] ++ decimalOf 3 byte ++ 32 ∷ [] ++ flagText irq ++ 32 ∷ [] ++ flagText txda ++ 32 ∷ []
+    ++ flagText txdb ++ 32 ∷ []
+    ++ decimalOf 3 op
+    ++ 10 ∷ []
+
+-- `error line `
+abbrev pub errorWords : List ℕ
+errorWords = 101 ∷ 114 ∷ 114 ∷ 111 ∷ 114 ∷ 32 ∷ 108 ∷ 105 ∷ 110 ∷ 101 ∷ 32 ∷ []
+
+-- the line for one that cannot be read: a number of 64 bits has at most twenty places
+abbrev pub errorText : ℕ → List ℕ
+errorText line = errorWords ++ decimalOf 20 line ++ 10 ∷ []
+
+-- so many bytes stand at the front of a space; the second part follows from the first, and both are what a caller's
+-- part of the space asks
+abbrev pub Within : ℕ → List ℕ → Type 0
+Within n space = (n ≤ length space) × (n ≡ length (take n space))

@@ -1,2 +1,0 @@
--- What a reader must believe of many ticks in a row.
-pub mod Ticking
