@@ -72,9 +72,6 @@ phase-restarted transmits n = rw (zero-mod n)
 stands-restarted : (acr : ℕ) (s : Sides.Side) → s .phases ≡ restarted → Stands acr 0 s
 stands-restarted acr s e side h = rw e (phase-restarted side _)
 
-stands-at : (s r : Sides.Side) → s ≡ r → {acr before : ℕ} → acr ≡ before → {ticks past : ℕ} → ticks ≡ past → Stands before past r → Stands acr ticks s
-stands-at s r w e d p = rw (w, e, d) p
-
 -- a side whose clocks are another's
 abbrev pub SameClocks : Sides.Side → Sides.Side → Type 0
 SameClocks r s = (s .csr ≡ r .csr) × (s .phases ≡ r .phases)
