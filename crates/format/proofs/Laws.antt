@@ -4,6 +4,7 @@ use borrow.Author.Tests.{eq-eqb, ne-eqb, lt-ltb, le-ltb, le-leb, lt-leb}
 use Rattle.format.proofs.Laws.Pick.{pick-yes, pick-no}
 pub mod Digits
 pub mod Format
+pub mod Numbers
 pub mod Once
 pub mod Parity
 pub mod Pick

@@ -1,16 +1,19 @@
 -- Wrong answers, each shut out by a definition: a routine that gave it would not meet its contract. Assumes nothing.
 use Prim.Native.Nat.{ℕ, _+_, _/_, _%_, _<_}
-use mathlib.Core.Path.{_≡_}
+use mathlib.Core.Path.{_≡_, refl, ap}
 use mathlib.Core.Bool.{Bool, true, false, not, _||_, true≢false, false≢true}
+use mathlib.Core.List.{List, [], _∷_}
 use native.Mathlib.Omega.{arith}
 use lib.Dec.{eqb, ltb}
+use lib.ListN.{length, getD}
 use Rattle.format.specs.declared.counts.Bits.{Bits}
 use Rattle.format.specs.declared.format.Format.{Format}
 use Rattle.format.specs.Pick.{pick}
 use Rattle.format.specs.Digits.{bitsOf, oddOnes, cutOf}
 use Rattle.format.specs.Format.{mr1NotModelled, mr2NotModelled, formatOf, stopCodeOf}
-use Rattle.format.specs.Parity.{dataBits, hasParityOf, parityBitOf}
+use Rattle.format.specs.Parity.{dataBits, hasParityOf, parityBitOf, parityBits}
 use Rattle.format.specs.Stop.{stopLengthOf, rowOf, stopBitsOf}
+use Rattle.format.proofs.Laws.Numbers.{Modelled, Widths, ParityBits, Stops}
 
 abbrev formatWith : ℕ → ℕ → Bool → Format
 formatWith width parity odd = record { width = record { 0 = width }; parity = parity; odd = odd }
@@ -66,3 +69,59 @@ no-onePulseTooMany h = omega (arith, h 0 (omega arith))
 no-sixInFirstRow : ((w : Bits) → pick (eqb (w .0) 6) 0 16 ≡ rowOf w) → ⊥
 unfolding rowOf pick
 no-sixInFirstRow h = omega (arith, h (record { 0 = 6 }))
+
+-- ---- wrong definitions, each shut out by document 01's numbers ----
+-- Made in the definition and in the code together, they would still be refused.
+
+-- the right ones, of MR1 and MR2
+abbrev thereFor : ℕ → Bool
+thereFor mr1 = hasParityOf (formatOf mr1)
+
+abbrev bitsFor : ℕ → ℕ → List Bool
+bitsFor mr1 x = parityBits (formatOf mr1) x
+
+abbrev sixteenths : ℕ → ℕ → ℕ
+sixteenths mr1 mr2 = stopLengthOf (formatOf mr1 .width) (stopCodeOf mr2) .0
+
+abbrev whole : ℕ → ℕ
+whole mr2 = stopBitsOf (stopCodeOf mr2) .0
+
+-- "4-3 parity 00 with, 01 forced, 10 none": forced parity without a parity bit, counted or sent
+no-forcedNotThere : ParityBits (λ (mr1 : ℕ). eqb (mr1 / 8 % 4) 0) bitsFor → ⊥
+no-forcedNotThere h = false≢true (h .forced-there 8 refl)
+
+no-forcedNotSent :
+    ParityBits thereFor (λ (mr1 x : ℕ). pick (eqb (mr1 / 8 % 4) 0) (parityBitOf (formatOf mr1) x ∷ []) []) → ⊥
+unfolding pick
+no-forcedNotSent h = omega (arith, ap length (h .forced-low 8 0 refl refl))
+
+-- "10 none": a parity bit where there is none
+no-noneSent : ParityBits thereFor (λ (mr1 x : ℕ). parityBitOf (formatOf mr1) x ∷ []) → ⊥
+no-noneSent h = omega (arith, ap length (h .none 16 0 refl))
+
+-- "2 odd, or forced high": forced as its complement
+no-forcedComplemented :
+    ParityBits thereFor (λ (mr1 x : ℕ). pick (eqb (mr1 / 8 % 4) 1) (eqb (mr1 / 4 % 2) 0 ∷ []) (bitsFor mr1 x)) → ⊥
+unfolding pick
+no-forcedComplemented h = true≢false (ap (λ (l : List Bool). getD l 0 false) (h .forced-low 8 0 refl refl))
+
+-- "MR2 bits 7-6 not 00, or bit 5 set": 0x40 accepted
+no-mr2Bit6Accepted : Modelled mr1NotModelled (λ (mr2 : ℕ). eqb (mr2 / 128 % 2) 1 || eqb (mr2 / 32 % 2) 1) → ⊥
+no-mr2Bit6Accepted h = omega (arith, ap length (h .second))
+
+-- "MR1 bit 7 set or bits 4-3 = 11": 10 refused, no parity
+no-mr1NoneRefused : Modelled (λ (mr1 : ℕ). eqb (mr1 / 128 % 2) 1 || eqb (mr1 / 16 % 2) 1) mr2NotModelled → ⊥
+no-mr1NoneRefused h = omega (arith, ap length (h .first))
+
+-- "1-0 data bits less 5": 8 data bits always
+no-alwaysEight : Widths (λ (mr1 : ℕ). 8) → ⊥
+no-alwaysEight h = omega (arith, h .five 0 refl)
+
+-- "With a 1X clock: one bit, two if bit 3 is set.": always one
+no-alwaysOneStopBit : Stops sixteenths (λ (mr2 : ℕ). 1) → ⊥
+no-alwaysOneStopBit h = omega (arith, ap (λ (l : List ℕ). getD l 8 0) (h .once))
+
+-- "for 6 to 8, 9+c for c up to 7, else 17+c": 9+c for every c
+no-nineForAll : Stops (λ (mr1 mr2 : ℕ). pick (eqb (mr1 % 4) 0) (mr2 % 16 + 17) (mr2 % 16 + 9)) whole → ⊥
+unfolding pick
+no-nineForAll h = omega (arith, ap (λ (l : List ℕ). getD l 8 0) (h .more 3 2 refl))
