@@ -1,14 +1,17 @@
 -- Wrong answers, each shut out by a definition: a routine that gave it would not meet its contract. Assumes nothing.
-use Prim.Native.Nat.{_+_, _-_}
-use mathlib.Core.Path.{_≡_}
-use mathlib.Core.Bool.{true, not, true≢false, false≢true}
+use Prim.Native.Nat.{ℕ, _+_, _-_}
+use mathlib.Core.Path.{_≡_, ap}
+use mathlib.Core.Bool.{Bool, true, not, true≢false, false≢true}
+use mathlib.Core.List.{List}
 use native.Mathlib.Omega.{arith}
-use lib.Dec.{ltb}
+use lib.Dec.{eqb, ltb}
+use lib.ListN.{getD}
 use Rattle.format.specs.declared.counts.Pulses.{Pulses}
 use Rattle.format.specs.declared.counts.Ticks.{Ticks}
 use Rattle.format.specs.Pick.{pick}
 use Rattle.dividers.specs.Divider.{dividedOf, sixteenthOf}
 use Rattle.dividers.specs.Rates.{periodOf}
+use Rattle.dividers.proofs.Laws.Rates.{Periods}
 
 -- "the next pulse coming a full period later"
 no-tickEarly :
@@ -30,3 +33,22 @@ no-secondSet0As3 = omega arith
 no-secondSet3As0 : 3072 ≡ periodOf true 3 .0 → ⊥
 unfolding periodOf pick
 no-secondSet3As0 = omega arith
+
+-- ---- wrong tables, each shut out by document 01's numbers ----
+-- Made in the definition and in the code together, they would still be refused.
+
+abbrev periodsOf : Bool → ℕ → ℕ
+periodsOf second code = periodOf second code .0
+
+-- "ACR bit 7 = 0: 4608, 2096, 1712, ..": two periods exchanged
+abbrev oneForTwo : ℕ → ℕ
+oneForTwo code = pick (eqb code 1) 2 (pick (eqb code 2) 1 code)
+
+no-periodsExchanged : Periods (λ (second : Bool) (code : ℕ). periodsOf second (oneForTwo code)) → ⊥
+unfolding periodOf pick
+no-periodsExchanged h = omega (arith, ap (λ (l : List ℕ). getD l 1 0) (h .first))
+
+-- the two sets exchanged
+no-setsExchanged : Periods (λ (second : Bool) (code : ℕ). periodsOf (not second) code) → ⊥
+unfolding periodOf pick
+no-setsExchanged h = omega (arith, ap (λ (l : List ℕ). getD l 0 0) (h .first))

@@ -1,2 +1,3 @@
--- The proofs of the output pins: the wrong answers shut out, and a file a function.
+-- The proofs of the output pins: what OPCR may hold, the wrong answers shut out, and a file a function.
+pub mod Laws
 mod ShutOut

@@ -1,0 +1,18 @@
+-- What OPCR may hold, written out: computed over all 256 bytes. Assumes nothing.
+use Prim.Native.Nat.{ℕ}
+use mathlib.Core.Path.{_≡_, refl}
+use mathlib.Core.Bool.{Bool}
+use mathlib.Core.List.{List, [], _∷_}
+use Rattle.format.proofs.Laws.Numbers.{accepted}
+use Rattle.outputs.specs.Outputs.{opcrNotModelled}
+
+-- "Not modelled (5): .. OPCR bits 1-0 not 00, or bits 3-2 = 10 or 11.": the bytes that are accepted, of all 256. The statement takes the test that
+-- it speaks of.
+abbrev pub Modelled : (ℕ → Bool) → Type 0
+Modelled opcr =
+    accepted opcr 256 0
+    ≡ 0 ∷ 4 ∷ 16 ∷ 20 ∷ 32 ∷ 36 ∷ 48 ∷ 52 ∷ 64 ∷ 68 ∷ 80 ∷ 84 ∷ 96 ∷ 100 ∷ 112 ∷ 116
+    ∷ 128 ∷ 132 ∷ 144 ∷ 148 ∷ 160 ∷ 164 ∷ 176 ∷ 180 ∷ 192 ∷ 196 ∷ 208 ∷ 212 ∷ 224 ∷ 228 ∷ 240 ∷ 244 ∷ []
+
+pub modelled : Modelled opcrNotModelled
+modelled = refl
