@@ -1,2 +1,3 @@
 -- The laws of the commands. Assumes nothing.
+pub mod Numbers
 pub mod Ranges
