@@ -8,5 +8,9 @@ pub mod Quiet
 pub mod Alone
 pub mod Lists
 pub mod Examples
+pub mod Registers
+pub mod Commands
+pub mod Formats
 pub mod Wrong
 pub mod WrongLists
+mod WrongNumbers
