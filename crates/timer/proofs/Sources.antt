@@ -22,8 +22,10 @@ use Rattle.timer_state.specs.declared.counting.Timer.{Timer}
 use Rattle.timer_state.specs.Counting.{withPhases, modeOf, isTimer, countedDown, tickPulses, edgePulses, transmitterPulses, counterPulsed, timerPulsed, pulsedBy}
 use Rattle.timer.specs.Timer.{tickedBy, edgedBy, transmittedBy, startedOf, stoppedOf, modeChanged}
 use Rattle.timer.specs.Counts.{Kept, Leaves}
+use Rattle.timer.specs.Modes.{pulseIn, aTick, anEdge, ones}
 use Rattle.timer.specs.Sources.{Ways, Sources, Happening, isTick, isEdge, howMany, happens, since, AlwaysRuns}
 use Rattle.timer.specs.Sources.Happening.{tick, edge, start, stop, bits, acr, preload}
+use Rattle.timer.proofs.Modes.{modes}
 
 -- ---- what leaves the preload and the phases alone ----
 
@@ -80,21 +82,23 @@ edges-at : (t : Timer) (m : ℕ) → t .edges .0 ≡ m % 16 → t .edges ≡ pul
 edges-at t m e = rw e
 
 ticked : (t : Timer) (mode m : ℕ) → t .ticks .0 ≡ m % 16
-    → tickedBy t mode ≡ pulsedBy (withPhases t (ticksOf (suc m % 16)) (t .edges)) mode (tickPulses mode (eqb (suc m % 16) 0))
+    → tickedBy t mode ≡ pulsedBy (withPhases t (ticksOf (suc m % 16)) (t .edges)) mode (pulseIn mode (aTick (eqb (suc m % 16) 0)))
 unfolding tickedBy
 ticked t mode m e =
     ap (λ (d : Divided). pulsedBy (withPhases t (d .phase) (t .edges)) mode (tickPulses mode (d .pulse)))
     (ap (λ (phase : Ticks). dividedOf phase (ticksOf 16)) (ticks-at t m e) ∙ divided-at (ticksOf 16) m (omega arith))
+    ∙ ap (pulsedBy _ mode) (modes .tick mode _)
 
 edged : (t : Timer) (mode m : ℕ) → t .edges .0 ≡ m % 16
-    → edgedBy t mode ≡ pulsedBy (withPhases t (t .ticks) (pulsesOf (suc m % 16))) mode (edgePulses mode (eqb (suc m % 16) 0))
+    → edgedBy t mode ≡ pulsedBy (withPhases t (t .ticks) (pulsesOf (suc m % 16))) mode (pulseIn mode (anEdge (eqb (suc m % 16) 0)))
 unfolding edgedBy
 edged t mode m e =
     ap (λ (d : Sixteenth). pulsedBy (withPhases t (t .ticks) (d .phase)) mode (edgePulses mode (d .pulse)))
     (ap sixteenthOf (edges-at t m e) ∙ sixteenth-at m)
+    ∙ ap (pulsedBy _ mode) (modes .edge mode _)
 
 pub sources : Sources ours pulsedBy
-sources = record { ticks = ticked; edges = edged; bits = λ t mode a b. refl }
+sources = record { ticks = ticked; edges = edged; bits = λ t mode a b. ap (λ (pulse : Bool). pulsedBy t mode pulse .timer) (modes .bits mode a b) }
 
 -- ---- both phases always run ----
 

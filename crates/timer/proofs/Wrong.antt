@@ -13,6 +13,7 @@ use Rattle.timer_state.specs.declared.counting.Timer.{Timer}
 use Rattle.timer_state.specs.Counting.{freshTimer, withCount, withRunning, withReady, withPhases, modeOf, isTimer, countedDown, counterPulsed, timerPulsed, pulsedBy, withPreload}
 use Rattle.timer.specs.Timer.{tickedBy, edgedBy, transmittedBy, startedOf, stoppedOf, modeChanged}
 use Rattle.timer.specs.Counts.{Pulsing, Command, afterPulses, Leaves, Counts, Toggles, Obeys}
+use Rattle.timer.specs.Modes.{pulseIn}
 use Rattle.timer.specs.Sources.{Ways, Sources, howMany, since, AlwaysRuns}
 use Rattle.timer.specs.Sources.Happening.{tick, start}
 use Rattle.timer.proofs.Examples.{loaded}
@@ -208,7 +209,7 @@ abbrev everyTick : Timer → ℕ → Counted
 everyTick t mode = pulsedBy (tickedBy t mode .timer) mode (eqb mode 7)
 
 pub no-everyTick : Sources (ticking everyTick) pulsedBy → ⊥
-unfolding tickedBy dividedOf pulsedBy timerPulsed pick
+unfolding tickedBy dividedOf pulsedBy timerPulsed pulseIn pick
 no-everyTick h =
     let z : _≡_ {A = ℕ} 65535 0 = ap (λ (c : Counted). c .timer .count) (h .ticks freshTimer 7 0 refl) in
     omega arith
@@ -226,7 +227,7 @@ everyEdge =
     }
 
 pub no-everyEdge : Sources everyEdge pulsedBy → ⊥
-unfolding edgedBy sixteenthOf pulsedBy timerPulsed pick
+unfolding edgedBy sixteenthOf pulsedBy timerPulsed pulseIn pick
 no-everyEdge h =
     let z : _≡_ {A = ℕ} 65535 0 = ap (λ (c : Counted). c .timer .count) (h .edges freshTimer 5 0 refl) in
     omega arith
@@ -244,7 +245,7 @@ crossed =
     }
 
 pub no-crossed : Sources crossed pulsedBy → ⊥
-unfolding pulsedBy counterPulsed pick
+unfolding pulsedBy counterPulsed pulseIn pick
 no-crossed h =
     let z : _≡_ {A = ℕ} 0 65535 = ap (λ (t : Timer). t .count) (h .bits (withRunning freshTimer true) 1 true false) in
     omega arith

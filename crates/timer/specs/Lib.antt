@@ -2,5 +2,6 @@
 -- (Counts, Sources); and its ranges.
 pub mod Timer
 pub mod Counts
+pub mod Modes
 pub mod Sources
 pub mod Sound
