@@ -13,6 +13,8 @@ use Rattle.timer_state.specs.declared.counting.Timer.{Timer}
 use Rattle.timer_state.specs.Counting.{modeOf, isTimer}
 use Rattle.timer.specs.Timer.{startedOf, stoppedOf, modeChanged}
 use Rattle.timer.specs.Counts.{pulsesOf}
+use Rattle.timer.specs.Modes.{timerIn}
+use Rattle.timer.proofs.Modes.{timer-mode}
 use Rattle.bytes.specs.Bytes.{hasBit}
 use Rattle.outputs.specs.Outputs.{drivenOp3}
 use Rattle.front.specs.declared.front.Front.{Front}
@@ -24,7 +26,7 @@ use Rattle.chip_answers.specs.Answers.{timerLevel}
 use Rattle.chip_step.specs.Chip.{stepOf}
 use Rattle.demands.specs.Chip.{over, chipOf, andThen, shows, linesAfter, eachOf}
 use Rattle.demands.specs.Clocks.{frontThen, frontAfter}
-use Rattle.demands.specs.Registers.{opcrThen, acrAfter}
+use Rattle.demands.specs.Registers.{opcrThen, modeAfter}
 use Rattle.demands.specs.Counter.{preloadAfter, leavesCounter, loads, since, Loaded, countShown, Counter}
 use Rattle.demands.proofs.Laws.Bits.{bit-3}
 use Rattle.demands.proofs.Laws.Run.{runAt, run-front, run-sound, front-byte}
@@ -67,57 +69,57 @@ output-shown levels es h m =
 low-preload : (levels mode : ℕ) (es fs : List Event) (load : Event) → Loaded mode es load fs → frontAfter levels es .timer .preload < 65536
 low-preload levels mode es fs load s = rw (preload-told levels es) at (s .preload)
 
-count-law : (levels mode : ℕ) (es fs : List Event) → Loaded mode es (Read 14) fs → isTimer mode ≡ false
+count-law : (levels mode : ℕ) (es fs : List Event) → Loaded mode es (Read 14) fs → timerIn mode ≡ false
     → countShown chip levels (es ++ Read 14 ∷ fs) ≡ (preloadAfter es + 65535 * since mode levels es (Read 14) fs) % 65536
 count-law levels mode es fs s h =
     count-whole levels (es ++ Read 14 ∷ fs)
     ∙ rw (preload-told levels es)
-    (counter-count mode _ _ _ _ (started-told levels mode es fs s) h (low-preload levels mode es fs (Read 14) s))
+    (counter-count mode _ _ _ (started-told levels mode es fs s) h (low-preload levels mode es fs (Read 14) s))
 
-terminal-law : (levels mode : ℕ) (es fs : List Event) → Loaded mode es (Read 14) fs → isTimer mode ≡ false
+terminal-law : (levels mode : ℕ) (es fs : List Event) → Loaded mode es (Read 14) fs → timerIn mode ≡ false
     → hasBit (shows chip levels (es ++ Read 14 ∷ fs) 5) 3
     ≡ (hasBit (shows chip levels es 5) 3 || leb (pulsesOf (preloadAfter es)) (since mode levels es (Read 14) fs))
 terminal-law levels mode es fs s h =
     ready-shown levels (es ++ Read 14 ∷ fs)
     ∙ rw (ready-shown levels es, preload-told levels es)
-    (counter-ready mode _ _ _ _ (started-told levels mode es fs s) h (low-preload levels mode es fs (Read 14) s))
+    (counter-ready mode _ _ _ (started-told levels mode es fs s) h (low-preload levels mode es fs (Read 14) s))
 
-reloads-law : (levels mode : ℕ) (es fs : List Event) (load : Event) → Loaded mode es load fs → isTimer mode ≡ true
+reloads-law : (levels mode : ℕ) (es fs : List Event) (load : Event) → Loaded mode es load fs → timerIn mode ≡ true
     → countShown chip levels (es ++ load ∷ fs)
     ≡ (pulsesOf (preloadAfter es) - since mode levels es load fs % pulsesOf (preloadAfter es)) % 65536
 reloads-law levels mode es fs load s h =
-    let gone = timer-since mode _ _ _ _ (loaded-told levels mode es fs load s h) h (low-preload levels mode es fs load s) in
+    let gone = timer-since mode _ _ _ (loaded-told levels mode es fs load s h) h (low-preload levels mode es fs load s) in
     count-whole levels (es ++ load ∷ fs) ∙ rw (preload-told levels es, ← gone .loaded) (gone .gone .count)
 
-toggles-law : (levels mode : ℕ) (es fs : List Event) (load : Event) → Loaded mode es load fs → isTimer mode ≡ true
+toggles-law : (levels mode : ℕ) (es fs : List Event) (load : Event) → Loaded mode es load fs → timerIn mode ≡ true
     → hasBit (shows chip levels (es ++ load ∷ fs) 5) 3
     ≡ (hasBit (shows chip levels es 5) 3 || leb (2 * pulsesOf (preloadAfter es)) (since mode levels es load fs))
 toggles-law levels mode es fs load s h =
     ready-shown levels (es ++ load ∷ fs)
     ∙ rw (ready-shown levels es, preload-told levels es)
-    (timer-ready mode _ _ _ _ (loaded-told levels mode es fs load s h) h (low-preload levels mode es fs load s))
+    (timer-ready mode _ _ _ (loaded-told levels mode es fs load s h) h (low-preload levels mode es fs load s))
 
-output-law : (levels mode : ℕ) (es fs : List Event) (load : Event) → Loaded mode es load fs → isTimer mode ≡ true
+output-law : (levels mode : ℕ) (es fs : List Event) (load : Event) → Loaded mode es load fs → timerIn mode ≡ true
     → eqb (over opcrThen 0 (es ++ load ∷ fs) / 4 % 4) 1 ≡ true
     → hasBit (linesAfter chip levels (es ++ load ∷ fs) .op) 3 ≡ eqb (since mode levels es load fs / pulsesOf (preloadAfter es) % 2) 0
 output-law levels mode es fs load s h o =
     let went = loaded-told levels mode es fs load s h in
-    let gone = timer-since mode _ _ _ _ went h (low-preload levels mode es fs load s) in
-    output-shown levels (es ++ load ∷ fs) o (ap isTimer (went .goes .chosen) ∙ h)
+    let gone = timer-since mode _ _ _ went h (low-preload levels mode es fs load s) in
+    output-shown levels (es ++ load ∷ fs) o (ap isTimer (went .goes .chosen) ∙ timer-mode mode ∙ h)
     ∙ rw (preload-told levels es, ← gone .loaded) (gone .gone .output)
 
 -- ---- a counter that does not run ----
 
-halts-law : (levels : ℕ) (es fs : List Event) → isTimer (modeOf (acrAfter es)) ≡ false → eachOf leavesCounter fs ≡ true
+halts-law : (levels : ℕ) (es fs : List Event) → timerIn (modeAfter es) ≡ false → eachOf leavesCounter fs ≡ true
     → countShown chip levels (es ++ Read 15 ∷ fs) ≡ countShown chip levels es
 unfolding over
 halts-law levels es fs m l =
     let f = frontAfter levels es in
     count-whole levels (es ++ Read 15 ∷ fs)
     ∙ rw (count-whole levels es, over-append frontThen (frontAt levels) es (Read 15 ∷ fs))
-    (halted-over (f .timer .count) _ fs l (halted-stop f (rw (acr-told levels es) at m)) .count)
+    (halted-over (f .timer .count) _ fs l (halted-stop f (timer-mode (modeOf (f .acr)) ∙ rw (acr-told levels es) at m)) .count)
 
-changed-law : (levels mode byte : ℕ) (es fs : List Event) → loads mode es (Write 4 byte) ≡ true → isTimer mode ≡ false
+changed-law : (levels mode byte : ℕ) (es fs : List Event) → loads mode es (Write 4 byte) ≡ true → timerIn mode ≡ false
     → eachOf leavesCounter fs ≡ true → countShown chip levels (es ++ Write 4 byte ∷ fs) ≡ preloadAfter es
 unfolding over
 changed-law levels mode byte es fs c m l =
@@ -127,7 +129,7 @@ changed-law levels mode byte es fs c m l =
     let other : eqb (modeOf (f .acr)) (modeOf byte) ≡ false = rw (same, ← acr-told levels es) (not-true _ (both .1)) in
     count-whole levels (es ++ Write 4 byte ∷ fs)
     ∙ rw (preload-told levels es, over-append frontThen (frontAt levels) es (Write 4 byte ∷ fs))
-    (halted-over (f .timer .preload) _ fs l (halted-change f byte other (rw same m)) .count)
+    (halted-over (f .timer .preload) _ fs l (halted-change f byte other (timer-mode (modeOf byte) ∙ rw same m)) .count)
 
 -- ---- a stop ----
 
@@ -141,7 +143,7 @@ clears-law levels es =
     ready-shown levels (andThen es (Read 15))
     ∙ rw (over-then frontThen (frontAt levels) es (Read 15), front-read (frontAfter levels es) 15) (stopped-ready (frontAfter levels es .timer) _)
 
-runs-law : (levels : ℕ) (es fs : List Event) → isTimer (modeOf (acrAfter es)) ≡ true → eachOf leavesCounter fs ≡ true
+runs-law : (levels : ℕ) (es fs : List Event) → timerIn (modeAfter es) ≡ true → eachOf leavesCounter fs ≡ true
     → (countShown chip levels (es ++ Read 15 ∷ fs) ≡ countShown chip levels (es ++ fs))
     × (eqb (over opcrThen 0 (es ++ fs) / 4 % 4) 1 ≡ true
     → hasBit (linesAfter chip levels (es ++ Read 15 ∷ fs) .op) 3 ≡ hasBit (linesAfter chip levels (es ++ fs) .op) 3)
@@ -149,7 +151,7 @@ unfolding over
 runs-law levels es fs m l = (count, output)
   where
     h : isTimer (modeOf (frontAfter levels es .acr)) ≡ true
-    h = rw (acr-told levels es) at m
+    h = timer-mode (modeOf (frontAfter levels es .acr)) ∙ rw (acr-told levels es) at m
 
     isTimer-of : Front → Bool
     isTimer-of f = isTimer (modeOf (f .acr))
@@ -202,7 +204,7 @@ sets-law levels byte es =
     ready-shown levels (andThen es (Write 4 byte))
     ∙ rw (ready-shown levels es, written-timer levels 4 byte es) (changed-ready (frontAfter levels es .timer) (frontAfter levels es .acr) byte)
 
-kept-law : (levels byte : ℕ) (es : List Event) → eqb (modeOf (acrAfter es)) (modeOf byte) ≡ true
+kept-law : (levels byte : ℕ) (es : List Event) → eqb (modeAfter es) (modeOf byte) ≡ true
     → countShown chip levels (andThen es (Write 4 byte)) ≡ countShown chip levels es
 unfolding modeChanged pick
 kept-law levels byte es h =

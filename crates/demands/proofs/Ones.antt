@@ -30,8 +30,7 @@ use Rattle.events.specs.declared.events.Event.the-variants.{ChipReset, Read, Wr
 use Rattle.demands.specs.Chip.{Channel, registerOf, andThen, over}
 use Rattle.demands.specs.Chip.Channel.{A, B}
 use Rattle.demands.specs.Told.{lastWritten}
-use Rattle.demands.specs.Clocks.{frontThen, frontAfter, sideOf, clocksOf, pulsedBy, pulsedAfter}
-use Rattle.demands.specs.Counted.{oneAfter}
+use Rattle.demands.specs.Clocks.{frontThen, frontAfter, sideOf, clocksOf, pulsedBy, pulsedAfter, oneAfter}
 use Rattle.demands.specs.Pulses as Pulsing
 use Rattle.demands.specs.Pulses.{Restarts, restartsThen, codeAfter, sentSince, sentAfter, Ones}
 use Rattle.demands.proofs.Laws.Fronts.{sideNext, side-next}

@@ -8,12 +8,15 @@ use lib.Dec.{eqb}
 use Rattle.format.specs.Pick.{pick}
 use Rattle.bytes.specs.Bytes.{hasBit}
 use Rattle.outputs.specs.Outputs.{drivenBy, drivenOp3}
-use Rattle.timer_state.specs.Counting.{modeOf, isTimer}
+use Rattle.timer_state.specs.Counting.{modeOf}
+use Rattle.timer.specs.Modes.{timerIn}
+use Rattle.timer.proofs.Modes.{timer-mode}
 use Rattle.chip_answers.specs.Answers.{timerLevel}
 use Rattle.events.specs.declared.events.Event.{Event}
 use Rattle.chip_step.specs.Chip.{stepOf}
 use Rattle.demands.specs.Chip.{chipOf, over, shows, linesAfter}
-use Rattle.demands.specs.Registers.{outputsThen, opcrThen, acrAfter, sourceOf, Outputs}
+use Rattle.demands.specs.Clocks.{frontAfter}
+use Rattle.demands.specs.Registers.{outputsThen, opcrThen, modeAfter, sourceOf, Outputs}
 use Rattle.demands.proofs.Laws.Told.{acr-told}
 use Rattle.demands.proofs.Laws.Ports.{outputs-told, opcr-told}
 use Rattle.demands.proofs.Laws.Looks.{chip}
@@ -53,12 +56,12 @@ third-shown levels es h =
     let k = rw (opcr-told levels es) at h in
     rw (outputs-told levels es) (pins levels es .op3 ∙ rw k)
 
-counter-shown : (levels : ℕ) (es : List Event) → eqb (over opcrThen 0 es / 4 % 4) 1 ≡ true → isTimer (modeOf (acrAfter es)) ≡ false
+counter-shown : (levels : ℕ) (es : List Event) → eqb (over opcrThen 0 es / 4 % 4) 1 ≡ true → timerIn (modeAfter es) ≡ false
     → hasBit (linesAfter chip levels es .op) 3 ≡ not (hasBit (shows chip levels es 5) 3)
 unfolding drivenOp3 timerLevel pick
 counter-shown levels es h m =
     let k = rw (opcr-told levels es) at h in
-    let j = rw (acr-told levels es) at m in
+    let j = timer-mode (modeOf (frontAfter levels es .acr)) ∙ rw (acr-told levels es) at m in
     pins levels es .op3 ∙ rw (k, j) (not-twice _)
 
 pub outputs : Outputs (chipOf stepOf)

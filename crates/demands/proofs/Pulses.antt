@@ -1,24 +1,25 @@
 -- The pulses of the clocks are as the statement has them: the front holds what the events tell, and the laws of its clocks and of its counter/timer
 -- say when a side has a pulse. Assumes nothing.
-use Prim.Native.Nat.{ℕ, suc, _+_, _*_, _/_, _%_, _≤_, _<_}
+use Prim.Native.Nat.{ℕ, suc, _*_, _/_, _%_, _≤_, _<_}
 use mathlib.Core.Path.{_≡_, refl, sym, _∙_, ap}
 use mathlib.Core.Bool.{Bool, true, false, not, _&&_, and-eq-true-iff, true≢false}
-use mathlib.Core.List.{List, [], _∷_, _++_, append-assoc}
+use mathlib.Core.List.{List, [], _∷_, _++_}
 use native.Mathlib.Omega.{arith}
-use lib.Dec.{eqb, ltb}
-use borrow.Author.Tests.{lt-ltb, le-ltb, ne-eqb, leb-true}
-use Rattle.format.specs.Digits.{bit}
+use lib.Dec.{eqb}
+use borrow.Author.Tests.{ne-eqb, leb-true}
 use Rattle.format.specs.Pick.{pick}
 use Rattle.format.proofs.Laws.Pick.{pick-all}
 use Rattle.dividers.specs.Rates.{periodOf}
 use Rattle.clocks.specs.Pulses.{Side, codeOf}
 use Rattle.timer_state.specs.declared.counting.Counted.{Counted}
 use Rattle.timer_state.specs.declared.counting.Timer.{Timer}
-use Rattle.timer_state.specs.Counting.{modeOf, isTimer, tickPulses, edgePulses, transmitterPulses, countedDown, timerPulsed}
+use Rattle.timer_state.specs.Counting.{modeOf, isTimer, transmitterPulses, countedDown, timerPulsed}
 use Rattle.timer_state.specs.Counting as Counting
 use Rattle.timer.specs.Timer.{tickedBy, edgedBy, transmittedBy}
 use Rattle.timer.specs.Counts.{pulsesOf}
+use Rattle.timer.specs.Modes.{pulseIn, timerIn, aTick, anEdge}
 use Rattle.timer.proofs.Counts.{toggles}
+use Rattle.timer.proofs.Modes.{timer-mode, first, none-comes, timer-first}
 use Rattle.timer.proofs.Sources.{leaves, sources}
 use Rattle.inputs.specs.Inputs.{risesOf, movedOf}
 use Rattle.front.specs.declared.front.Front.{Front}
@@ -28,16 +29,15 @@ use Rattle.events.specs.declared.events.Event.{Event}
 use Rattle.events.specs.declared.events.Event.the-variants.{ChipReset, Read, Write, Acknowledge, Pins, Tick}
 use Rattle.demands.specs.Chip.{Channel, andThen, eachOf}
 use Rattle.demands.specs.Told.{Programmed, levelsAfter}
-use Rattle.demands.specs.Registers.{acrAfter}
-use Rattle.demands.specs.Counter.{preloadAfter, Elapsed, elapsedThen, pulsesAfter, leavesCounter, since, Loaded}
+use Rattle.demands.specs.Registers.{acrAfter, modeAfter}
+use Rattle.demands.specs.Counter.{preloadAfter, elapsedAfter, comes, pulseAt, leavesCounter, since, Loaded}
 use Rattle.demands.specs.Clocks.{frontThen, frontAfter, sideOf, pulsedBy, pulsedAfter}
 use Rattle.demands.specs.Counted.{timerAfter}
 use Rattle.demands.specs.Pulses.{ticksAfter, tickEvent, clocks, edgeBy, codeAfter, Pulses}
 use Rattle.demands.proofs.Laws.Fronts.{frontMoved, frontNext, front-next}
 use Rattle.demands.proofs.Laws.Told.{over-then, levels-told, acr-told, told}
 use Rattle.demands.proofs.Laws.Restarts.{fixed-pulse}
-use Rattle.demands.proofs.Laws.Timers.{Phased, preload-told}
-use Rattle.demands.proofs.Laws.Counting.{elapsedAt}
+use Rattle.demands.proofs.Laws.Timers.{Phased, phased-told, preload-told}
 use Rattle.demands.proofs.Laws.Loads.{Since, since-phases, WentBy, loaded-told, timer-since}
 use Rattle.demands.proofs.Laws.Clocks.{timer-pulse, timer-pins, pin-tick, pin-pulse}
 use Rattle.demands.proofs.Counted.{timer-told}
@@ -107,7 +107,7 @@ counted-toggles f before tick h =
     Never : Counted → Type 0
     Never c = c .toggled ≡ false
 
-counter : (side : Side) (ch : Channel) (levels : ℕ) (es : List Event) (e : Event) → codeAfter side ch es ≡ 13 → isTimer (modeOf (acrAfter es)) ≡ false
+counter : (side : Side) (ch : Channel) (levels : ℕ) (es : List Event) (e : Event) → codeAfter side ch es ≡ 13 → timerIn (modeAfter es) ≡ false
     → pulsedAfter side ch levels es e ≡ false
 counter side ch levels es e c h = toggle side ch f e (sym (code-told side ch levels es) ∙ c) ∙ go e
   where
@@ -115,7 +115,7 @@ counter side ch levels es e c h = toggle side ch f e (sym (code-told side ch lev
     f = frontAfter levels es
 
     mode : isTimer (modeOf (f .acr)) ≡ false
-    mode = rw (acr-told levels es) at h
+    mode = timer-mode (modeOf (f .acr)) ∙ rw (acr-told levels es) at h
 
     go : (e : Event) → toggledBy f e ≡ false
     go ChipReset = refl
@@ -174,64 +174,68 @@ event-rises f (Pins x) h =
 event-rises f Tick h =
     rw (transmitted-none (countedOf f (f .inputs .levels) true .timer) (modeOf (f .acr)) _ _ h) (counted-rises f (f .inputs .levels) true h)
 
-by-output : (side : Side) (ch : Channel) (levels : ℕ) (es : List Event) (e : Event) → codeAfter side ch es ≡ 13 → isTimer (modeOf (acrAfter es)) ≡ true
+by-output : (side : Side) (ch : Channel) (levels : ℕ) (es : List Event) (e : Event) → codeAfter side ch es ≡ 13 → timerIn (modeAfter es) ≡ true
     → pulsedAfter side ch levels es e ≡ (clocks e && (not (timerAfter levels es .output) && timerAfter levels (andThen es e) .output))
 by-output side ch levels es e c h =
     let f : Front = frontAfter levels es in
     toggle side ch f e (sym (code-told side ch levels es) ∙ c)
     ∙ rw (timer-told levels es, timer-told levels (andThen es e), over-then frontThen (frontAt levels) es e, front-next f e)
-    (event-rises f e (rw (acr-told levels es) at h))
+    (event-rises f e (timer-mode (modeOf (f .acr)) ∙ rw (acr-told levels es) at h))
 
 -- ---- and once it is loaded ----
 
-pulse-toggles : (t : Timer) (mode k preload : ℕ) (pulse : Bool) → isTimer mode ≡ true → preload < 65536 → Since k preload t
+pulse-toggles : (t : Timer) (mode k preload : ℕ) (pulse : Bool) → timerIn mode ≡ true → preload < 65536 → Since k preload t
     → Counting.pulsedBy t mode pulse .toggled ≡ (pulse && eqb (suc k % (2 * pulsesOf preload)) 0)
 pulse-toggles t mode k preload true h l s = rw (← s .loaded) (toggles .high t mode k h (rw (s .loaded) l) (s .gone))
 pulse-toggles t mode k preload false h l s = rw (leaves .still t mode)
 
--- whether one more pulse has come
-one-more : (n : ℕ) (pulse : Bool) → ltb n (n + bit pulse) ≡ pulse
-one-more n true = lt-ltb n (n + 1) (omega arith)
-one-more n false = le-ltb n (n + 0) (omega arith)
-
-event-toggles : (k preload : ℕ) (x : Elapsed) (f : Front) (e : Event) → isTimer (modeOf (f .acr)) ≡ true → preload < 65536
-    → Phased x f → Since k preload (f .timer)
-    → toggledBy f e ≡ (ltb (x .pulses) (elapsedThen (modeOf (f .acr)) x e .pulses) && eqb (suc k % (2 * pulsesOf preload)) 0)
-unfolding countedOf elapsedThen movedOf pick
-event-toggles k preload x f e h l p s = go e
+event-toggles : (k preload levels : ℕ) (es : List Event) (e : Event) → timerIn (modeOf (frontAfter levels es .acr)) ≡ true → preload < 65536
+    → Since k preload (frontAfter levels es .timer)
+    → toggledBy (frontAfter levels es) e ≡ (pulseAt (modeOf (frontAfter levels es .acr)) levels es e && eqb (suc k % (2 * pulsesOf preload)) 0)
+unfolding countedOf comes movedOf pick
+event-toggles k preload levels es e h l s = go e
   where
+    f : Front
+    f = frontAfter levels es
+
+    mode : ℕ
+    mode = modeOf (f .acr)
+
+    p : Phased (elapsedAfter levels es) f
+    p = phased-told levels es
+
+    was : ℕ
+    was = elapsedAfter levels es .levels
+
     ends : Bool
     ends = eqb (suc k % (2 * pulsesOf preload)) 0
 
     toggled : Counted → Bool
     toggled c = c .toggled
 
-    still : (n : ℕ) → n ≤ x .pulses → false ≡ (ltb (x .pulses) n && ends)
-    still n le = rw (le-ltb (x .pulses) n le)
-
-    edged : toggled (edgedBy (f .timer) (modeOf (f .acr))) ≡ (edgePulses (modeOf (f .acr)) (eqb (suc (x .edges) % 16) 0) && ends)
+    edged : toggled (edgedBy (f .timer) mode) ≡ (pulseIn mode (anEdge (eqb (suc (elapsedAfter levels es .edges) % 16) 0)) && ends)
     edged =
-        ap toggled (sources .edges (f .timer) (modeOf (f .acr)) (x .edges) (p .edges))
-        ∙ pulse-toggles _ (modeOf (f .acr)) k preload _ h l (since-phases k preload (f .timer) _ _ s)
+        ap toggled (sources .edges (f .timer) mode _ (p .edges))
+        ∙ pulse-toggles _ mode k preload _ h l (since-phases k preload (f .timer) _ _ s)
 
-    ticked : toggled (tickedBy (f .timer) (modeOf (f .acr))) ≡ (tickPulses (modeOf (f .acr)) (eqb (suc (x .ticks) % 16) 0) && ends)
+    ticked : toggled (tickedBy (f .timer) mode) ≡ (pulseIn mode (aTick (eqb (suc (elapsedAfter levels es .ticks) % 16) 0)) && ends)
     ticked =
-        ap toggled (sources .ticks (f .timer) (modeOf (f .acr)) (x .ticks) (p .ticks))
-        ∙ pulse-toggles _ (modeOf (f .acr)) k preload _ h l (since-phases k preload (f .timer) _ _ s)
+        ap toggled (sources .ticks (f .timer) mode _ (p .ticks))
+        ∙ pulse-toggles _ mode k preload _ h l (since-phases k preload (f .timer) _ _ s)
 
-    moved : (levels : ℕ) (t : Bool) → risesOf (x .levels) levels 2 ≡ t
-        → toggled (pick (risesOf (x .levels) levels 2) (edgedBy (f .timer) (modeOf (f .acr))) (record { timer = f .timer; toggled = false }))
-        ≡ (ltb (x .pulses) (elapsedThen (modeOf (f .acr)) x (Pins levels) .pulses) && ends)
-    moved levels true e = rw (e, one-more) edged
-    moved levels false e = rw e (still (x .pulses) (omega arith))
+    moved : (x : ℕ) (t : Bool) → risesOf was x 2 ≡ t
+        → toggled (pick (risesOf was x 2) (edgedBy (f .timer) mode) (record { timer = f .timer; toggled = false }))
+        ≡ (pulseIn mode (first (comes levels es (Pins x))) && ends)
+    moved x true e = rw e edged
+    moved x false e = rw (e, none-comes mode)
 
-    go : (e : Event) → toggledBy f e ≡ (ltb (x .pulses) (elapsedThen (modeOf (f .acr)) x e .pulses) && ends)
-    go ChipReset = still 0 (omega arith)
-    go (Read n) = still (x .pulses) (omega arith)
-    go (Write n byte) = still (x .pulses) (omega arith)
-    go Acknowledge = still (x .pulses) (omega arith)
-    go (Pins levels) = rw (p .levels) (moved levels (risesOf (x .levels) levels 2) refl)
-    go Tick = rw one-more ticked
+    go : (e : Event) → toggledBy f e ≡ (pulseAt mode levels es e && ends)
+    go ChipReset = rw (none-comes mode)
+    go (Read n) = rw (none-comes mode)
+    go (Write n byte) = rw (none-comes mode)
+    go Acknowledge = rw (none-comes mode)
+    go (Pins x) = rw (p .levels, timer-first (comes levels es (Pins x)) mode h) (moved x (risesOf was x 2) refl)
+    go Tick = rw (timer-first (comes levels es Tick) mode h) ticked
 
 -- the last of some events, and those before it
 left-before : (fs : List Event) (e : Event) → eachOf leavesCounter (andThen fs e) ≡ true → eachOf leavesCounter fs ≡ true
@@ -240,23 +244,16 @@ left-before (g ∷ fs) e l =
     let both = and-eq-true-iff (leavesCounter g) _ .0 l in
     and-eq-true-iff (leavesCounter g) _ .1 (both .0, left-before fs e (both .1))
 
-pulses-last : (mode levels : ℕ) (es fs : List Event) (load e : Event)
-    → pulsesAfter mode levels (es ++ load ∷ andThen fs e) ≡ elapsedThen mode (elapsedAt mode levels (es ++ load ∷ fs)) e .pulses
-pulses-last mode levels es fs load e =
-    ap (pulsesAfter mode levels) (sym (append-assoc es (load ∷ fs) (e ∷ [])))
-    ∙ ap (λ (x : Elapsed). x .pulses) (over-then (elapsedThen mode) _ (es ++ load ∷ fs) e)
-
 timer : (side : Side) (ch : Channel) (levels mode : ℕ) (es fs : List Event) (load e : Event) → codeAfter side ch (es ++ load ∷ fs) ≡ 13
-    → Loaded mode es load (andThen fs e) → isTimer mode ≡ true
+    → Loaded mode es load (andThen fs e) → timerIn mode ≡ true
     → pulsedAfter side ch levels (es ++ load ∷ fs) e
-    ≡ (ltb (pulsesAfter mode levels (es ++ load ∷ fs)) (pulsesAfter mode levels (es ++ load ∷ andThen fs e))
-    && eqb (suc (since mode levels es load fs) % (2 * pulsesOf (preloadAfter es))) 0)
+    ≡ (pulseAt mode levels (es ++ load ∷ fs) e && eqb (suc (since mode levels es load fs) % (2 * pulsesOf (preloadAfter es))) 0)
 timer side ch levels mode es fs load e c s h =
     toggle side ch f e (sym (code-told side ch levels (es ++ load ∷ fs)) ∙ c)
-    ∙ rw (pulses-last mode levels es fs load e, preload-told levels es)
+    ∙ rw (preload-told levels es)
     (rw chosen at
-    (event-toggles (since mode levels es load fs) (t .preload) _ f e (ap isTimer chosen ∙ h) low (went .goes .phased)
-    (timer-since mode _ _ _ _ went h low)))
+    (event-toggles (since mode levels es load fs) (t .preload) levels (es ++ load ∷ fs) e (ap timerIn chosen ∙ h) low
+    (timer-since mode _ _ _ went h low)))
   where
     f : Front
     f = frontAfter levels (es ++ load ∷ fs)
@@ -267,10 +264,10 @@ timer side ch levels mode es fs load e c s h =
     low : t .preload < 65536
     low = rw (preload-told levels es) at (s .preload)
 
-    went : WentBy mode levels es (load ∷ fs)
+    went : WentBy mode levels es load fs
     went =
         loaded-told levels mode es fs load
-        (record { loaded = s .loaded; clock = s .clock; preload = s .preload; left = left-before fs e (s .left) }) h
+        (record { loaded = s .loaded; preload = s .preload; left = left-before fs e (s .left) }) h
 
     chosen : modeOf (f .acr) ≡ mode
     chosen = went .goes .chosen

@@ -47,3 +47,24 @@ pulsedBy side ch f Tick = pulsed side (clocksOf ch f (f .inputs .levels) true)
 -- after these events since a chip reset
 abbrev pub pulsedAfter : Side → Channel → ℕ → List Event → Event → Bool
 pulsedAfter side ch levels es e = pulsedBy side ch (frontAfter levels es) e
+
+-- ---- the 1X transmitter clocks ----
+
+-- whether a tick, or a pin event, is a pulse of a channel's 1X transmitter clock: "every 16th 16X pulse since that
+-- phase restarted, or each 1X pulse"
+abbrev pub tickOne : Channel → ℕ → List Event → Bool
+tickOne ch levels es = let f : Front = frontAfter levels es in clocksOf ch f (f .inputs .levels) true .one
+
+abbrev pub pinsOne : Channel → ℕ → List Event → ℕ → Bool
+pinsOne ch levels es x =
+    let f : Front = frontAfter levels es in
+    clocksOf ch (withPorts f (movedOf (f .inputs) x) (f .outputs)) (f .inputs .levels) false .one
+
+-- or any event
+unfoldable pub oneAfter : Channel → ℕ → List Event → Event → Bool
+oneAfter ch levels es ChipReset = false
+oneAfter ch levels es (Read n) = false
+oneAfter ch levels es (Write n byte) = false
+oneAfter ch levels es Acknowledge = false
+oneAfter ch levels es (Pins x) = pinsOne ch levels es x
+oneAfter ch levels es Tick = tickOne ch levels es

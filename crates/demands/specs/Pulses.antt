@@ -5,21 +5,21 @@ use Prim.Native.Nat.{ℕ, suc, _+_, _*_, _<_, _/_, _%_}
 use mathlib.Core.Path.{_≡_}
 use mathlib.Core.Bool.{Bool, true, false, not, _&&_}
 use mathlib.Core.List.{List, [], _∷_, _++_}
-use lib.Dec.{eqb, ltb}
+use lib.Dec.{eqb}
 use Rattle.format.specs.Digits.{bit}
 use Rattle.format.specs.Pick.{pick}
 use Rattle.dividers.specs.Rates.{periodOf}
 use Rattle.clocks.specs.Pulses.{Side, codeOf}
 use Rattle.clocks.specs.Pulses.Side.{receives, transmits}
 use Rattle.inputs.specs.Inputs.{risesOf, fallsOf}
-use Rattle.timer_state.specs.Counting.{modeOf, isTimer}
 use Rattle.timer.specs.Counts.{pulsesOf}
+use Rattle.timer.specs.Modes.{timerIn}
 use Rattle.events.specs.declared.events.Event.{Event}
 use Rattle.events.specs.declared.events.Event.the-variants.{ChipReset, Read, Write, Acknowledge, Pins, Tick}
 use Rattle.demands.specs.Chip.{Channel, ofChannel, registerOf, andThen, over}
 use Rattle.demands.specs.Told.{levelsAfter, programmed}
-use Rattle.demands.specs.Registers.{acrAfter}
-use Rattle.demands.specs.Counter.{preloadAfter, pulsesAfter, since, Loaded}
+use Rattle.demands.specs.Registers.{acrAfter, modeAfter}
+use Rattle.demands.specs.Counter.{preloadAfter, pulseAt, since, Loaded}
 use Rattle.demands.specs.Counted.{timerAfter}
 
 -- whether an event pulses a side of a channel, after a chip reset with these levels on the pins and then these events
@@ -99,19 +99,19 @@ pub record Pulses (pulsed : Pulsing) : Type 0 where
       → pulsed side ch levels es e ≡ edgeBy side ch (levelsAfter levels es) e
   -- "13: the timer's toggle to high .., none in counter mode."
   pub counter : (side : Side) (ch : Channel) (levels : ℕ) (es : List Event) (e : Event) → codeAfter side ch es ≡ 13
-      → isTimer (modeOf (acrAfter es)) ≡ false
+      → timerIn (modeAfter es) ≡ false
       → pulsed side ch levels es e ≡ false
   pub toggle : (side : Side) (ch : Channel) (levels : ℕ) (es : List Event) (e : Event) → codeAfter side ch es ≡ 13
-      → isTimer (modeOf (acrAfter es)) ≡ true
+      → timerIn (modeAfter es) ≡ true
       → pulsed side ch levels es e
       ≡ (clocks e && (not (timerAfter levels es .output) && timerAfter levels (andThen es e) .output))
   -- once it is loaded the toggle to high comes with every second terminal: the event pulses the timer, and so many
   -- pulses have come with it
   pub timer : (side : Side) (ch : Channel) (levels mode : ℕ) (es fs : List Event) (load e : Event)
       → codeAfter side ch (es ++ load ∷ fs) ≡ 13
-      → Loaded mode es load (andThen fs e) → isTimer mode ≡ true
+      → Loaded mode es load (andThen fs e) → timerIn mode ≡ true
       → pulsed side ch levels (es ++ load ∷ fs) e
-      ≡ (ltb (pulsesAfter mode levels (es ++ load ∷ fs)) (pulsesAfter mode levels (es ++ load ∷ andThen fs e))
+      ≡ (pulseAt mode levels (es ++ load ∷ fs) e
       && eqb (suc (since mode levels es load fs) % (2 * pulsesOf (preloadAfter es))) 0)
 
 -- ---- the 1X transmitter clock ----

@@ -11,7 +11,7 @@ use lib.Bits.{bitAnd, bitOr, bitXor}
 use Rattle.format.specs.Pick.{pick}
 use Rattle.bytes.specs.Bytes.{hasBit}
 use Rattle.outputs.specs.Outputs.{opcrNotModelled}
-use Rattle.timer_state.specs.Counting.{modeOf, isTimer}
+use Rattle.timer.specs.Modes.{timerIn}
 use Rattle.events.specs.declared.events.Event.{Event}
 use Rattle.events.specs.declared.events.Event.the-variants.{ChipReset, Read, Write, Acknowledge, Pins, Tick}
 use Rattle.chip_laws.specs.Quiet.{onlyLooks}
@@ -64,6 +64,10 @@ imrAfter es = over (lastWritten 5 0) 0 es
 
 abbrev pub acrAfter : List Event → ℕ
 acrAfter es = over (lastWritten 4 0) 0 es
+
+-- "ACR 6-4"
+abbrev pub modeAfter : List Event → ℕ
+modeAfter es = acrAfter es / 16 % 8
 
 abbrev pub shareBit : ℕ → ℕ → Bool
 shareBit a b = not (eqb (bitAnd a b) 0)
@@ -156,5 +160,5 @@ pub record Outputs (c : Chip) : Type 0 where
   pub third : (levels : ℕ) (es : List Event) → eqb (over opcrThen 0 es / 4 % 4) 1 ≡ false
       → hasBit (linesAfter c levels es .op) 3 ≡ not (hasBit (over outputsThen 0 es) 3)
   pub counter : (levels : ℕ) (es : List Event) → eqb (over opcrThen 0 es / 4 % 4) 1 ≡ true
-      → isTimer (modeOf (acrAfter es)) ≡ false
+      → timerIn (modeAfter es) ≡ false
       → hasBit (linesAfter c levels es .op) 3 ≡ not (hasBit (shows c levels es 5) 3)

@@ -14,9 +14,10 @@ use Rattle.dividers.proofs.Laws.Runs.{Turn, turn, first-whole, both-runs, alter
 use Rattle.dividers.proofs.Laws.Runs.Turn.{goes, ends}
 use Rattle.timer_state.specs.declared.counting.Counted.{Counted}
 use Rattle.timer_state.specs.declared.counting.Timer.{Timer}
-use Rattle.timer_state.specs.Counting.{withCount, withReady, isTimer, countedDown, counterPulsed, timerPulsed, pulsedBy}
+use Rattle.timer_state.specs.Counting.{withCount, withReady, modeOf, isTimer, countedDown, counterPulsed, timerPulsed, pulsedBy}
 use Rattle.timer.specs.Timer.{startedOf, stoppedOf, modeChanged}
 use Rattle.timer.specs.Counts.{afterPulses, pulsesOf, Counts, Gone, Toggles, Obeys}
+use Rattle.timer.proofs.Modes.{timer-mode}
 
 -- ---- the pulses of a preload ----
 
@@ -110,13 +111,13 @@ counter-ready t mode (suc m) h l =
 pub counts : Counts pulsedBy startedOf
 counts =
     record {
-      takes = counter-pulse;
-      halted = halted;
-      count = λ t mode m h l. counter-after t mode m h l .count;
+      takes = λ t mode h. counter-pulse t mode (timer-mode mode ∙ h);
+      halted = λ t mode h. halted t mode (timer-mode mode ∙ h);
+      count = λ t mode m h l. counter-after t mode m (timer-mode mode ∙ h) l .count;
       terminal =
           λ t mode m h l z.
-          rw (counter-after t mode m h l .count) (gone-zero (t .preload) (pulsesOf (t .preload)) m (stands (t .preload) l) z);
-      sets = counter-ready;
+          rw (counter-after t mode m (timer-mode mode ∙ h) l .count) (gone-zero (t .preload) (pulsesOf (t .preload)) m (stands (t .preload) l) z);
+      sets = λ t mode m h l. counter-ready t mode m (timer-mode mode ∙ h) l;
     }
 
 -- ---- a timer ----
@@ -209,11 +210,11 @@ gone-by preload k t d = record { count = rw (d .loaded) (d .count); output = rw 
 pub toggles : Toggles pulsedBy startedOf
 toggles =
     record {
-      goes = λ t mode k m h l g. gone-by (t .preload) (k + m) _ (turned-after t mode (t .preload) _ k m h (stands (t .preload) l) (turned k t g));
-      high = λ t mode k h l g. turned-more t mode (t .preload) _ k h (stands (t .preload) l) (turned k t g) .1;
-      sets = pulse-ready;
-      output = λ t mode m h l. timer-after t mode m h l .output;
-      ready = timer-ready;
+      goes = λ t mode k m h l g. gone-by (t .preload) (k + m) _ (turned-after t mode (t .preload) _ k m (timer-mode mode ∙ h) (stands (t .preload) l) (turned k t g));
+      high = λ t mode k h l g. turned-more t mode (t .preload) _ k (timer-mode mode ∙ h) (stands (t .preload) l) (turned k t g) .1;
+      sets = λ t mode h. pulse-ready t mode (timer-mode mode ∙ h);
+      output = λ t mode m h l. timer-after t mode m (timer-mode mode ∙ h) l .output;
+      ready = λ t mode m h l. timer-ready t mode m (timer-mode mode ∙ h) l;
     }
 
 -- ---- a start, a stop, another mode ----
@@ -222,10 +223,10 @@ pub obeys : Obeys startedOf stoppedOf modeChanged
 unfolding startedOf stoppedOf modeChanged pick
 obeys =
     record {
-      startsCounter = λ t mode h. rw h;
-      stopsCounter = λ t mode h. rw h;
-      startsTimer = λ t mode h. rw h;
-      stopsTimer = λ t mode h. rw h;
-      changes = λ t before after h. rw h;
+      startsCounter = λ t mode h. rw (timer-mode mode ∙ h);
+      stopsCounter = λ t mode h. rw (timer-mode mode ∙ h);
+      startsTimer = λ t mode h. rw (timer-mode mode ∙ h);
+      stopsTimer = λ t mode h. rw (timer-mode mode ∙ h);
+      changes = λ t before after h. rw (h, timer-mode (modeOf after));
       unchanged = λ t before after h. rw h;
     }

@@ -1,12 +1,13 @@
 -- The code's tests of a mode are document 01's eight cases: each mode is computed, and above 7 there is no clock. Assumes nothing.
 use Prim.Native.Nat.{ℕ, zero, suc, _<_}
 use mathlib.Core.Path.{_≡_, refl}
-use mathlib.Core.Bool.{Bool, true, false}
+use mathlib.Core.Bool.{Bool, true, false, false≢true}
 use native.Mathlib.Omega.{arith}
 use borrow.Author.Tests.{ne-eqb, le-leb}
 use lib.Dec.{eqb}
 use Rattle.format.specs.Pick.{pick}
-use Rattle.timer_state.specs.Counting.{modeOf, isTimer, tickPulses, edgePulses, transmitterPulses}
+use Rattle.timer_state.specs.declared.counting.Timer.{Timer}
+use Rattle.timer_state.specs.Counting.{modeOf, isTimer, tickPulses, edgePulses, transmitterPulses, pulsedBy}
 use Rattle.timer.specs.Modes.{Comes, pulseIn, timerIn, aTick, anEdge, ones, Tests, Modes}
 
 -- modes 0 to 7, and those above
@@ -62,7 +63,6 @@ bits-mode false b =
     to-seven (λ (m : ℕ). transmitterPulses m false b ≡ pulseIn m (ones false b)) refl refl refl refl refl refl refl refl (bits-above false b)
 
 pub timer-mode : (mode : ℕ) → isTimer mode ≡ timerIn mode
-unfolding timerIn pick
 timer-mode =
     to-seven (λ (m : ℕ). isTimer m ≡ timerIn m) refl refl refl refl refl refl refl refl
     (λ n l. rw (le-leb 4 n (omega arith), other n 0 l (omega arith), other n 1 l (omega arith), other n 2 l (omega arith), other n 3 l (omega arith)))
@@ -73,3 +73,36 @@ tests = record { mode = modeOf; tick = tickPulses; edge = edgePulses; bits = tra
 pub modes : Modes tests
 modes =
     record { mode = λ acr. refl; tick = λ mode s. tick-mode s mode; edge = λ mode s. edge-mode s mode; bits = λ mode a b. bits-mode a b mode; timer = timer-mode }
+
+-- ---- the clocks of one event ----
+
+-- ticks or edges come before the transmitters' 1X clocks
+abbrev pub first : Comes → Comes
+first c = record { ip2 = c .ip2; ip2By16 = c .ip2By16; txca = false; txcb = false; ticks = c .ticks; ticksBy16 = c .ticksBy16 }
+
+-- where none of them comes there is no pulse
+pub none-comes : (mode : ℕ) → pulseIn mode (ones false false) ≡ false
+unfolding pulseIn pick
+none-comes =
+    to-seven (λ (m : ℕ). pulseIn m (ones false false) ≡ false) refl refl refl refl refl refl refl refl (λ n l. no-pulse n (ones false false) l)
+
+-- a mode has one clock: so it has at most one pulse of both
+pub pulsed-once : (t : Timer) (c : Comes) (mode : ℕ)
+    → pulsedBy (pulsedBy t mode (pulseIn mode (first c)) .timer) mode (pulseIn mode (ones (c .txca) (c .txcb))) .timer
+    ≡ pulsedBy t mode (pulseIn mode c) .timer
+unfolding pulseIn pulsedBy pick
+pulsed-once t c =
+    to-seven
+    (λ (m : ℕ).
+    pulsedBy (pulsedBy t m (pulseIn m (first c)) .timer) m (pulseIn m (ones (c .txca) (c .txcb))) .timer
+    ≡ pulsedBy t m (pulseIn m c) .timer)
+    refl refl refl refl refl refl refl refl
+    (λ n l. rw (no-pulse n c l, no-pulse n (first c) l, no-pulse n (ones (c .txca) (c .txcb)) l))
+
+-- a timer's is none of the transmitters'
+pub timer-first : (c : Comes) (mode : ℕ) → timerIn mode ≡ true → pulseIn mode c ≡ pulseIn mode (first c)
+unfolding pulseIn pick
+timer-first c =
+    to-seven (λ (m : ℕ). timerIn m ≡ true → pulseIn m c ≡ pulseIn m (first c)) (λ h. refl) (λ h. absurd (false≢true h))
+    (λ h. absurd (false≢true h)) (λ h. refl) (λ h. refl) (λ h. refl) (λ h. refl) (λ h. refl)
+    (λ n l h. rw (no-pulse n c l, no-pulse n (first c) l))

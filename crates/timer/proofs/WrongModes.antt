@@ -5,7 +5,7 @@ use native.Mathlib.Omega.{arith}
 use lib.Dec.{eqb}
 use Rattle.format.specs.Pick.{pick}
 use Rattle.timer_state.specs.Counting.{modeOf, isTimer, tickPulses, edgePulses, transmitterPulses}
-use Rattle.timer.specs.Modes.{pulseIn, timerIn, Tests, Modes}
+use Rattle.timer.specs.Modes.{pulseIn, Tests, Modes}
 
 -- ours, but in one mode a tick, an edge of IP2 or the transmitters' clocks pulse otherwise; or it is the other of counter and timer
 abbrev tickIn : ℕ → (Bool → Bool) → Tests
@@ -71,7 +71,7 @@ pub record WrongModes : Type 0 where
   pub no-counter-7 : Modes (otherIn 7) → ⊥
 
 pub wrong-modes : WrongModes
-unfolding pulseIn timerIn pick
+unfolding pulseIn pick
 wrong-modes =
     record {
       no-sixteenths-0 = λ h. false≢true (h .edge 0 false);

@@ -7,7 +7,8 @@ use lib.Dec.{eqb, leb}
 use Rattle.format.specs.Pick.{pick}
 use Rattle.timer_state.specs.declared.counting.Counted.{Counted}
 use Rattle.timer_state.specs.declared.counting.Timer.{Timer}
-use Rattle.timer_state.specs.Counting.{withCount, withRunning, withReady, modeOf, isTimer, countedDown}
+use Rattle.timer_state.specs.Counting.{withCount, withRunning, withReady, countedDown}
+use Rattle.timer.specs.Modes.{timerIn}
 
 -- a way to take a pulse of its clock, or none, in a mode
 abbrev pub Pulsing : Type 0
@@ -43,7 +44,7 @@ pub record Leaves (p : Pulsing) : Type 0 where
 pub record Counts (p : Pulsing) (start : Command) : Type 0 where
   -- "Each pulse takes 1 from the count, modulo 65,536; .. terminal sets ISR bit 3, counting goes on"; no toggle comes
   -- of it
-  pub takes : (t : Timer) (mode : ℕ) → isTimer mode ≡ false → t .running ≡ true
+  pub takes : (t : Timer) (mode : ℕ) → timerIn mode ≡ false → t .running ≡ true
       → p t mode true
       ≡ record {
         timer = withReady (withCount t (countedDown (t .count)) (t .output))
@@ -51,15 +52,15 @@ pub record Counts (p : Pulsing) (start : Command) : Type 0 where
         toggled = false;
       }
   -- "stop halts": one that does not run takes no pulse
-  pub halted : (t : Timer) (mode : ℕ) → isTimer mode ≡ false → t .running ≡ false
+  pub halted : (t : Timer) (mode : ℕ) → timerIn mode ≡ false → t .running ≡ false
       → p t mode true ≡ record { timer = t; toggled = false }
-  pub count : (t : Timer) (mode m : ℕ) → isTimer mode ≡ false → t .preload < 65536
+  pub count : (t : Timer) (mode m : ℕ) → timerIn mode ≡ false → t .preload < 65536
       → afterPulses p mode (start t mode) m .count ≡ (t .preload + 65535 * m) % 65536
-  pub terminal : (t : Timer) (mode m : ℕ) → isTimer mode ≡ false → t .preload < 65536 → 0 < m
+  pub terminal : (t : Timer) (mode m : ℕ) → timerIn mode ≡ false → t .preload < 65536 → 0 < m
       → eqb (afterPulses p mode (start t mode) m .count) 0
       ≡ (leb (pulsesOf (t .preload)) m && eqb ((m - pulsesOf (t .preload)) % 65536) 0)
   -- the bit is set by the first terminal, and the start neither sets nor clears it
-  pub sets : (t : Timer) (mode m : ℕ) → isTimer mode ≡ false → t .preload < 65536
+  pub sets : (t : Timer) (mode m : ℕ) → timerIn mode ≡ false → t .preload < 65536
       → afterPulses p mode (start t mode) m .ready ≡ (t .ready || leb (pulsesOf (t .preload)) m)
 
 -- ---- a timer ----
@@ -74,32 +75,32 @@ pub record Gone (k : ℕ) (t : Timer) : Type 0 where
 pub record Toggles (p : Pulsing) (start : Command) : Type 0 where
   -- "Timer: always runs; terminal toggles and reloads": from any such moment on, running or not, the bit set or cleared
   -- meanwhile
-  pub goes : (t : Timer) (mode k m : ℕ) → isTimer mode ≡ true → t .preload < 65536 → Gone k t
+  pub goes : (t : Timer) (mode k m : ℕ) → timerIn mode ≡ true → t .preload < 65536 → Gone k t
       → Gone (k + m) (afterPulses p mode t m)
   -- the toggle to high, which is code 13's pulse, comes with every second one
-  pub high : (t : Timer) (mode k : ℕ) → isTimer mode ≡ true → t .preload < 65536 → Gone k t
+  pub high : (t : Timer) (mode k : ℕ) → timerIn mode ≡ true → t .preload < 65536 → Gone k t
       → p t mode true .toggled ≡ eqb (suc k % (2 * pulsesOf (t .preload))) 0
   -- "a toggle to high sets ISR bit 3", and nothing else does
-  pub sets : (t : Timer) (mode : ℕ) → isTimer mode ≡ true
+  pub sets : (t : Timer) (mode : ℕ) → timerIn mode ≡ true
       → p t mode true .timer .ready ≡ (t .ready || p t mode true .toggled)
   -- so after a start the output is high, low, high by runs of n pulses, and the bit is set after two
-  pub output : (t : Timer) (mode m : ℕ) → isTimer mode ≡ true → t .preload < 65536
+  pub output : (t : Timer) (mode m : ℕ) → timerIn mode ≡ true → t .preload < 65536
       → afterPulses p mode (start t mode) m .output ≡ eqb (m / pulsesOf (t .preload) % 2) 0
-  pub ready : (t : Timer) (mode m : ℕ) → isTimer mode ≡ true → t .preload < 65536
+  pub ready : (t : Timer) (mode m : ℕ) → timerIn mode ≡ true → t .preload < 65536
       → afterPulses p mode (start t mode) m .ready ≡ (t .ready || leb (2 * pulsesOf (t .preload)) m)
 
 -- ---- a start, a stop, another mode: what each does, and that it does no more ----
 
 pub record Obeys (start stop : Command) (change : Timer → ℕ → ℕ → Timer) : Type 0 where
   -- "Counter: start loads the preload and runs"; "stop halts and clears the bit"
-  pub startsCounter : (t : Timer) (mode : ℕ) → isTimer mode ≡ false
+  pub startsCounter : (t : Timer) (mode : ℕ) → timerIn mode ≡ false
       → start t mode ≡ withRunning (withCount t (t .preload) (t .output)) true
-  pub stopsCounter : (t : Timer) (mode : ℕ) → isTimer mode ≡ false → stop t mode ≡ withRunning (withReady t false) false
+  pub stopsCounter : (t : Timer) (mode : ℕ) → timerIn mode ≡ false → stop t mode ≡ withRunning (withReady t false) false
   -- "start reloads and drives the output high, setting no bit; stop clears the bit only"
-  pub startsTimer : (t : Timer) (mode : ℕ) → isTimer mode ≡ true → start t mode ≡ withCount t (t .preload) true
-  pub stopsTimer : (t : Timer) (mode : ℕ) → isTimer mode ≡ true → stop t mode ≡ withReady t false
+  pub startsTimer : (t : Timer) (mode : ℕ) → timerIn mode ≡ true → start t mode ≡ withCount t (t .preload) true
+  pub stopsTimer : (t : Timer) (mode : ℕ) → timerIn mode ≡ true → stop t mode ≡ withReady t false
   -- "A change of ACR 6-4 reloads, drives the output high, setting no bit, and runs exactly in timer modes.": any other
   -- write does nothing
-  pub changes : (t : Timer) (before after : ℕ) → eqb (modeOf before) (modeOf after) ≡ false
-      → change t before after ≡ withRunning (withCount t (t .preload) true) (isTimer (modeOf after))
-  pub unchanged : (t : Timer) (before after : ℕ) → eqb (modeOf before) (modeOf after) ≡ true → change t before after ≡ t
+  pub changes : (t : Timer) (before after : ℕ) → eqb (before / 16 % 8) (after / 16 % 8) ≡ false
+      → change t before after ≡ withRunning (withCount t (t .preload) true) (timerIn (after / 16 % 8))
+  pub unchanged : (t : Timer) (before after : ℕ) → eqb (before / 16 % 8) (after / 16 % 8) ≡ true → change t before after ≡ t

@@ -1,5 +1,5 @@
 -- What a reader must believe of the counter/timer: what happens to it, under the name of src/; what is owed of it
--- (Counts, Sources); and its ranges.
+-- (Counts, Modes, Sources); and its ranges.
 pub mod Timer
 pub mod Counts
 pub mod Modes

@@ -3,7 +3,7 @@
 -- Assumes nothing.
 use Prim.Native.Nat.{ℕ, _/_, _%_}
 use mathlib.Core.Path.{_≡_}
-use mathlib.Core.Bool.{Bool, true, false}
+use mathlib.Core.Bool.{Bool, true, false, not, _||_}
 use lib.Dec.{eqb}
 use Rattle.format.specs.Pick.{pick}
 
@@ -31,13 +31,8 @@ pulseIn mode c =
     false)))))))
 
 -- "0-3 counter .. 4-7 timer"
-unfoldable pub timerIn : ℕ → Bool
-timerIn mode =
-    pick (eqb mode 0) false
-    (pick (eqb mode 1) false
-    (pick (eqb mode 2) false
-    (pick (eqb mode 3) false
-    true)))
+abbrev pub timerIn : ℕ → Bool
+timerIn mode = not (((eqb mode 0 || eqb mode 1) || eqb mode 2) || eqb mode 3)
 
 -- a tick, or a rising edge of IP2, which is a 16th of its own or not; and the 1X transmitter clocks, of A and of B
 abbrev pub aTick : Bool → Comes

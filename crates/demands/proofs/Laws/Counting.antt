@@ -1,21 +1,20 @@
 -- What an event that leaves the counter/timer alone does to it: the pulse that its clock has then, or none. So after any list of them it is where so
 -- many pulses bring it. Assumes nothing.
-use Prim.Native.Nat.{ℕ, suc, _+_, _-_, _≤_, _%_}
-use mathlib.Core.Path.{_≡_, refl, sym, _∙_, ap, subst}
-use mathlib.Core.Bool.{Bool, true, false, not, _&&_, and-eq-true-iff, true≢false}
-use mathlib.Core.List.{List, [], _∷_}
-use native.Mathlib.Omega.{arith}
+use Prim.Native.Nat.{ℕ, suc, _+_, _%_}
+use mathlib.Core.Path.{_≡_, refl, sym, _∙_, ap}
+use mathlib.Core.Bool.{Bool, true, false, not, and-eq-true-iff, true≢false}
+use mathlib.Core.List.{List, [], _∷_, _++_, append-nil, append-assoc}
 use native.Mathlib.Numerals.{add-one}
-use native.Mathlib.Nat.{add-zero}
+use native.Mathlib.Nat.{add-zero, add-assoc}
 use lib.Dec.{eqb}
-use borrow.Author.Tests.{ne-eqb}
 use Rattle.format.specs.Digits.{bit}
 use Rattle.format.specs.Pick.{pick}
 use Rattle.timer_state.specs.declared.counting.Timer.{Timer}
-use Rattle.timer_state.specs.Counting.{withPhases, modeOf, isTimer, countedDown, tickPulses, edgePulses, transmitterPulses}
-use Rattle.timer_state.specs.Counting.{counterPulsed, timerPulsed, pulsedBy}
-use Rattle.timer.specs.Timer.{tickedBy, edgedBy}
+use Rattle.timer_state.specs.Counting.{withPhases, modeOf, isTimer, countedDown, counterPulsed, timerPulsed, pulsedBy}
+use Rattle.timer.specs.Timer.{tickedBy, edgedBy, transmittedBy}
 use Rattle.timer.specs.Counts.{afterPulses}
+use Rattle.timer.specs.Modes.{Comes, pulseIn, aTick, anEdge, ones}
+use Rattle.timer.proofs.Modes.{first, none-comes, pulsed-once}
 use Rattle.timer.proofs.Sources.{leaves, sources}
 use Rattle.inputs.specs.Inputs.{risesOf, movedOf}
 use Rattle.front.specs.declared.front.Front.{Front}
@@ -23,13 +22,13 @@ use Rattle.front.specs.Front.{frontAt}
 use Rattle.front_clocks.specs.Clocking.{countedOf}
 use Rattle.events.specs.declared.events.Event.{Event}
 use Rattle.events.specs.declared.events.Event.the-variants.{ChipReset, Read, Write, Acknowledge, Pins, Tick}
-use Rattle.demands.specs.Chip.{over, eachOf}
+use Rattle.demands.specs.Chip.{andThen, over, eachOf}
 use Rattle.demands.specs.Told.{lastWritten}
-use Rattle.demands.specs.Clocks.{frontThen, frontAfter}
-use Rattle.demands.specs.Counter.{Elapsed, elapsedThen, leavesCounter}
-use Rattle.demands.proofs.Laws.Fronts.{frontRead, frontWritten, frontMoved, frontNext, front-next}
-use Rattle.demands.proofs.Laws.Told.{acr-next}
-use Rattle.demands.proofs.Laws.Timers.{Phased, pinsCounted, phased-next, phased-over}
+use Rattle.demands.specs.Clocks.{frontThen, frontAfter, oneAfter}
+use Rattle.demands.specs.Counter.{elapsedAfter, comes, pulseAt, pulsesFrom, leavesCounter}
+use Rattle.demands.proofs.Laws.Fronts.{frontRead, frontWritten, front-next}
+use Rattle.demands.proofs.Laws.Told.{over-then, acr-next}
+use Rattle.demands.proofs.Laws.Timers.{Phased, pinsCounted, phased-told}
 
 -- ---- the phases apart ----
 
@@ -50,36 +49,66 @@ core-pulsed t mode true = go (isTimer mode) (t .running) (eqb (countedDown (t .c
     go false true ends h r z = rw (h, r)
     go false false ends h r z = rw (h, r)
 
--- ---- an event that leaves the counter/timer alone ----
+-- ---- a tick or a pin event: the pulse that its clock has with it, or none ----
 
--- a clock that is not a transmitter's
-abbrev pub Apart : ℕ → Type 0
-Apart mode = (mode ≡ 1 → ⊥) × (mode ≡ 2 → ⊥)
+ticked-core : (t : Timer) (mode m : ℕ) → t .ticks .0 ≡ m % 16
+    → core (tickedBy t mode .timer) ≡ pulsedBy (core t) mode (pulseIn mode (aTick (eqb (suc m % 16) 0))) .timer
+ticked-core t mode m p = rw (sources .ticks t mode m p) (core-pulsed _ mode _)
 
-transmitted : (t : Timer) (mode : ℕ) (a b : Bool) → Apart mode → pulsedBy t mode (transmitterPulses mode a b) .timer ≡ t
-transmitted t mode a b h = rw (ne-eqb mode 1 (h .0), ne-eqb mode 2 (h .1), leaves .still t mode)
+edged-core : (t : Timer) (mode m : ℕ) → t .edges .0 ≡ m % 16
+    → core (edgedBy t mode .timer) ≡ pulsedBy (core t) mode (pulseIn mode (anEdge (eqb (suc m % 16) 0))) .timer
+edged-core t mode m p = rw (sources .edges t mode m p) (core-pulsed _ mode _)
 
--- whether its clock has a pulse then
-unfoldable pulseAt : ℕ → Elapsed → Event → Bool
-pulseAt mode x ChipReset = false
-pulseAt mode x (Read n) = false
-pulseAt mode x (Write n byte) = false
-pulseAt mode x Acknowledge = false
-pulseAt mode x (Pins levels) = risesOf (x .levels) levels 2 && edgePulses mode (eqb (suc (x .edges) % 16) 0)
-pulseAt mode x Tick = tickPulses mode (eqb (suc (x .ticks) % 16) 0)
+-- where no clock comes it stays
+quiet : (t : Timer) (mode : ℕ) → t ≡ pulsedBy t mode (pulseIn mode (ones false false)) .timer
+unfolding pulsedBy pick
+quiet t mode = rw (none-comes mode)
 
-pulses-next : (mode : ℕ) (x : Elapsed) (e : Event) → leavesCounter e ≡ true → elapsedThen mode x e .pulses ≡ x .pulses + bit (pulseAt mode x e)
-unfolding elapsedThen pulseAt pick
-pulses-next mode x ChipReset l = absurd (true≢false (sym l))
-pulses-next mode x (Read n) l = sym (add-zero (x .pulses))
-pulses-next mode x (Write n byte) l = sym (add-zero (x .pulses))
-pulses-next mode x Acknowledge l = sym (add-zero (x .pulses))
-pulses-next mode x (Pins levels) l = go (risesOf (x .levels) levels 2) refl
+-- then come the transmitters' 1X clocks
+transmitted-core : (t u : Timer) (mode : ℕ) (c : Comes) → core t ≡ pulsedBy (core u) mode (pulseIn mode (first c)) .timer
+    → core (transmittedBy t mode (c .txca) (c .txcb)) ≡ pulsedBy (core u) mode (pulseIn mode c) .timer
+transmitted-core t u mode c h =
+    ap core (sources .bits t mode (c .txca) (c .txcb))
+    ∙ core-pulsed t mode _
+    ∙ ap (λ (x : Timer). pulsedBy x mode (pulseIn mode (ones (c .txca) (c .txcb))) .timer) h
+    ∙ pulsed-once (core u) c mode
+
+pub timer-tick : (levels : ℕ) (es : List Event)
+    → core (frontThen (frontAfter levels es) Tick .timer)
+    ≡ pulsedBy (core (frontAfter levels es .timer)) (modeOf (frontAfter levels es .acr))
+    (pulseAt (modeOf (frontAfter levels es .acr)) levels es Tick) .timer
+unfolding countedOf comes oneAfter pick
+timer-tick levels es =
+    let f : Front = frontAfter levels es in
+    rw (front-next f Tick)
+    (transmitted-core _ (f .timer) (modeOf (f .acr)) (comes levels es Tick)
+    (ticked-core (f .timer) (modeOf (f .acr)) _ (phased-told levels es .ticks)))
+
+pub timer-pins : (levels : ℕ) (es : List Event) (x : ℕ)
+    → core (frontThen (frontAfter levels es) (Pins x) .timer)
+    ≡ pulsedBy (core (frontAfter levels es .timer)) (modeOf (frontAfter levels es .acr))
+    (pulseAt (modeOf (frontAfter levels es .acr)) levels es (Pins x)) .timer
+unfolding countedOf movedOf comes oneAfter pulsedBy pick
+timer-pins levels es x =
+    rw (front-next f (Pins x))
+    (transmitted-core _ (f .timer) (modeOf (f .acr)) (comes levels es (Pins x)) (rw (p .levels) (go (risesOf was x 2) refl)))
   where
-    go : (t : Bool) → risesOf (x .levels) levels 2 ≡ t → elapsedThen mode x (Pins levels) .pulses ≡ x .pulses + bit (pulseAt mode x (Pins levels))
-    go true e = rw e
-    go false e = rw e (sym (add-zero (x .pulses)))
-pulses-next mode x Tick l = refl
+    f : Front
+    f = frontAfter levels es
+
+    p : Phased (elapsedAfter levels es) f
+    p = phased-told levels es
+
+    was : ℕ
+    was = elapsedAfter levels es .levels
+
+    go : (t : Bool) → risesOf was x 2 ≡ t
+        → core (pinsCounted f was x .timer)
+        ≡ pulsedBy (core (f .timer)) (modeOf (f .acr)) (pulseIn (modeOf (f .acr)) (first (comes levels es (Pins x)))) .timer
+    go true e = rw e (edged-core (f .timer) (modeOf (f .acr)) _ (p .edges))
+    go false e = rw e (quiet (core (f .timer)) (modeOf (f .acr)))
+
+-- ---- an event that leaves the counter/timer alone ----
 
 pub not-true : (t : Bool) → not t ≡ true → t ≡ false
 not-true true h = sym h
@@ -99,45 +128,23 @@ written-left f n byte l =
     let k = and-eq-true-iff (not (eqb n 6)) _ .0 (h .1) in
     rw (not-true (eqb n 4) (h .0), not-true (eqb n 6) (k .0), not-true (eqb n 7) (k .1))
 
-ticked-core : (t : Timer) (mode m : ℕ) → t .ticks .0 ≡ m % 16
-    → core (tickedBy t mode .timer) ≡ pulsedBy (core t) mode (tickPulses mode (eqb (suc m % 16) 0)) .timer
-ticked-core t mode m p = rw (sources .ticks t mode m p) (core-pulsed _ mode _)
-
-edged-core : (t : Timer) (mode m : ℕ) → t .edges .0 ≡ m % 16
-    → core (edgedBy t mode .timer) ≡ pulsedBy (core t) mode (edgePulses mode (eqb (suc m % 16) 0)) .timer
-edged-core t mode m p = rw (sources .edges t mode m p) (core-pulsed _ mode _)
-
--- a tick or a pin event, before the transmitters' clocks
-counted-tick : (x : Elapsed) (f : Front) (before : ℕ) → Phased x f
-    → core (countedOf f before true .timer) ≡ pulsedBy (core (f .timer)) (modeOf (f .acr)) (pulseAt (modeOf (f .acr)) x Tick) .timer
-unfolding countedOf pulseAt pick
-counted-tick x f before p = ticked-core (f .timer) (modeOf (f .acr)) (x .ticks) (p .ticks)
-
-counted-pins : (x : Elapsed) (f : Front) (levels : ℕ) → Phased x f
-    → core (countedOf (frontMoved f levels) (f .inputs .levels) false .timer)
-    ≡ pulsedBy (core (f .timer)) (modeOf (f .acr)) (pulseAt (modeOf (f .acr)) x (Pins levels)) .timer
-unfolding countedOf pulseAt movedOf pulsedBy pick
-counted-pins x f levels p = rw (p .levels) (go (risesOf (x .levels) levels 2) refl)
-  where
-    go : (t : Bool) → risesOf (x .levels) levels 2 ≡ t
-        → core (pinsCounted f (x .levels) levels .timer)
-        ≡ pulsedBy (core (f .timer)) (modeOf (f .acr)) (pulseAt (modeOf (f .acr)) x (Pins levels)) .timer
-    go true e = rw e (edged-core (f .timer) (modeOf (f .acr)) (x .edges) (p .edges))
-    go false e = rw e
-
-timer-next : (x : Elapsed) (f : Front) (e : Event) → Phased x f → Apart (modeOf (f .acr)) → leavesCounter e ≡ true
-    → core (frontThen f e .timer) ≡ pulsedBy (core (f .timer)) (modeOf (f .acr)) (pulseAt (modeOf (f .acr)) x e) .timer
-unfolding pulseAt pulsedBy pick
-timer-next x f e p a l = rw (front-next f e) (go e l)
-  where
-    go : (e : Event) → leavesCounter e ≡ true
-        → core (frontNext f e .timer) ≡ pulsedBy (core (f .timer)) (modeOf (f .acr)) (pulseAt (modeOf (f .acr)) x e) .timer
-    go ChipReset l = absurd (true≢false (sym l))
-    go (Read n) l = ap core (read-left f n l)
-    go (Write n byte) l = ap core (written-left f n byte l)
-    go Acknowledge l = refl
-    go (Pins levels) l = ap core (transmitted _ (modeOf (f .acr)) _ _ a) ∙ counted-pins x f levels p
-    go Tick l = ap core (transmitted _ (modeOf (f .acr)) _ _ a) ∙ counted-tick x f (f .inputs .levels) p
+timer-next : (levels : ℕ) (es : List Event) (e : Event) → leavesCounter e ≡ true
+    → core (frontThen (frontAfter levels es) e .timer)
+    ≡ pulsedBy (core (frontAfter levels es .timer)) (modeOf (frontAfter levels es .acr))
+    (pulseAt (modeOf (frontAfter levels es .acr)) levels es e) .timer
+unfolding comes
+timer-next levels es ChipReset l = absurd (true≢false (sym l))
+timer-next levels es (Read n) l =
+    let f : Front = frontAfter levels es in
+    rw (front-next f (Read n)) (ap core (read-left f n l) ∙ quiet (core (f .timer)) (modeOf (f .acr)))
+timer-next levels es (Write n byte) l =
+    let f : Front = frontAfter levels es in
+    rw (front-next f (Write n byte)) (ap core (written-left f n byte l) ∙ quiet (core (f .timer)) (modeOf (f .acr)))
+timer-next levels es Acknowledge l =
+    let f : Front = frontAfter levels es in
+    rw (front-next f Acknowledge) (quiet (core (f .timer)) (modeOf (f .acr)))
+timer-next levels es (Pins x) l = timer-pins levels es x
+timer-next levels es Tick l = timer-tick levels es
 
 -- ---- any list of them ----
 
@@ -167,43 +174,30 @@ acr-over f (e ∷ es) l =
     let h = and-eq-true-iff (leavesCounter e) _ .0 l in
     acr-over (frontThen f e) es (h .1) ∙ acr-left f e (h .0)
 
--- a front whose counter/timer has gone on from t by the pulses since there were `base`
-pub record Goes (mode base : ℕ) (t : Timer) (x : Elapsed) (f : Front) : Type 0 where
-  pub more : base ≤ x .pulses
+-- a front whose counter/timer has gone on from t by k pulses
+pub record Goes (mode k : ℕ) (t : Timer) (f : Front) : Type 0 where
   pub chosen : modeOf (f .acr) ≡ mode
-  pub told : core (f .timer) ≡ afterPulses pulsedBy mode t (x .pulses - base)
-  pub phased : Phased x f
+  pub told : core (f .timer) ≡ afterPulses pulsedBy mode t k
 
-goes-next : (mode base : ℕ) (t : Timer) (x : Elapsed) (f : Front) (e : Event) → Apart mode → leavesCounter e ≡ true → Goes mode base t x f
-    → Goes mode base t (elapsedThen mode x e) (frontThen f e)
-goes-next mode base t x f e a l g =
-    let more = g .more in
-    let pulses = pulses-next mode x e l in
-    let next = rw (g .chosen) at (timer-next x f e (g .phased) (subst Apart (sym (g .chosen)) a) l) in
-    let same : x .pulses - base + bit (pulseAt mode x e) ≡ elapsedThen mode x e .pulses - base = omega arith in
-    record {
-      more = omega arith;
+goes-next : (mode k : ℕ) (t : Timer) (levels : ℕ) (es : List Event) (e : Event) → leavesCounter e ≡ true → Goes mode k t (frontAfter levels es)
+    → Goes mode (k + bit (pulseAt mode levels es e)) t (frontAfter levels (andThen es e))
+goes-next mode k t levels es e l g =
+    let f : Front = frontAfter levels es in
+    let pulse : Bool = pulseAt mode levels es e in
+    rw (over-then frontThen (frontAt levels) es e)
+    (record {
       chosen = ap modeOf (acr-left f e l) ∙ g .chosen;
       told =
-          next
-          ∙ ap (λ (u : Timer). pulsedBy u mode (pulseAt mode x e) .timer) (g .told)
-          ∙ sym (after-more mode t (x .pulses - base) (pulseAt mode x e))
-          ∙ ap (afterPulses pulsedBy mode t) same;
-      phased = phased-next mode x f e (g .phased);
-    }
+          rw (g .chosen) at (timer-next levels es e l)
+          ∙ ap (λ (u : Timer). pulsedBy u mode pulse .timer) (g .told)
+          ∙ sym (after-more mode t k pulse);
+    })
 
-pub goes-over : (mode base : ℕ) (t : Timer) (x : Elapsed) (f : Front) (es : List Event)
-    → Apart mode → eachOf leavesCounter es ≡ true → Goes mode base t x f → Goes mode base t (over (elapsedThen mode) x es) (over frontThen f es)
-unfolding over
-goes-over mode base t x f [] a l g = g
-goes-over mode base t x f (e ∷ es) a l g =
+pub goes-over : (mode k : ℕ) (t : Timer) (levels : ℕ) (es fs : List Event) → eachOf leavesCounter fs ≡ true → Goes mode k t (frontAfter levels es)
+    → Goes mode (k + pulsesFrom mode levels es fs) t (frontAfter levels (es ++ fs))
+unfolding pulsesFrom
+goes-over mode k t levels es [] l g = rw (append-nil es, add-zero k) g
+goes-over mode k t levels es (e ∷ fs) l g =
     let h = and-eq-true-iff (leavesCounter e) _ .0 l in
-    goes-over mode base t (elapsedThen mode x e) (frontThen f e) es a (h .1) (goes-next mode base t x f e a (h .0) g)
-
--- since a chip reset
-abbrev pub elapsedAt : ℕ → ℕ → List Event → Elapsed
-elapsedAt mode levels es = over (elapsedThen mode) (record { ticks = 0; edges = 0; levels = levels; pulses = 0 }) es
-
-pub phased-told : (mode levels : ℕ) (es : List Event) → Phased (elapsedAt mode levels es) (frontAfter levels es)
-unfolding frontAt
-phased-told mode levels es = phased-over mode _ (frontAt levels) es (record { ticks = refl; edges = refl; levels = refl })
+    rw (append-assoc es (e ∷ []) fs, add-assoc k (bit (pulseAt mode levels es e)) (pulsesFrom mode levels (andThen es e) fs)) at
+    (goes-over mode _ t levels (andThen es e) fs (h .1) (goes-next mode k t levels es e (h .0) g))

@@ -3,7 +3,7 @@
 use Prim.Native.Nat.{ℕ, zero, suc, _+_, _*_, _-_, _<_, _%_}
 use mathlib.Core.Path.{_≡_, refl, sym, _∙_, ap}
 use mathlib.Core.Bool.{true, false, _||_, and-eq-true-iff, true≢false}
-use mathlib.Core.List.{List, _∷_, _++_}
+use mathlib.Core.List.{List, [], _∷_, _++_, append-assoc}
 use native.Mathlib.Omega.{arith}
 use native.Mathlib.Nat.{zero-add, sub-zero, sub-self, zero-mod, zero-div}
 use lib.Dec.{eqb, leb}
@@ -15,66 +15,61 @@ use Rattle.timer_state.specs.declared.counting.Timer.{Timer}
 use Rattle.timer_state.specs.Counting.{withCount, withRunning, withPhases, modeOf, isTimer, pulsedBy}
 use Rattle.timer.specs.Timer.{startedOf, modeChanged}
 use Rattle.timer.specs.Counts.{afterPulses, pulsesOf, Gone}
+use Rattle.timer.specs.Modes.{timerIn}
 use Rattle.timer.proofs.Counts.{counts, toggles, obeys}
 use Rattle.timer.proofs.Sources.{leaves}
 use Rattle.front.specs.declared.front.Front.{Front}
 use Rattle.front.specs.Front.{frontAt}
 use Rattle.events.specs.declared.events.Event.{Event}
 use Rattle.events.specs.declared.events.Event.the-variants.{ChipReset, Read, Write, Acknowledge, Pins, Tick}
-use Rattle.demands.specs.Chip.{over, eachOf}
+use Rattle.demands.specs.Chip.{andThen}
 use Rattle.demands.specs.Clocks.{frontThen, frontAfter}
-use Rattle.demands.specs.Counter.{Elapsed, elapsedThen, leavesCounter, pulsesAfter, loads, Loaded}
+use Rattle.demands.specs.Counter.{loads, since, Loaded}
 use Rattle.demands.proofs.Laws.Fronts.{front-read, front-written}
-use Rattle.demands.proofs.Laws.Told.{pick-with, over-append, acr-next, acr-told}
-use Rattle.demands.proofs.Laws.Timers.{Phased, phased-next}
-use Rattle.demands.proofs.Laws.Counting.{core, Apart, Goes, goes-over, elapsedAt, phased-told, not-true}
+use Rattle.demands.proofs.Laws.Told.{pick-with, over-then, acr-next, acr-told}
+use Rattle.demands.proofs.Laws.Counting.{core, Goes, goes-over, not-true}
 
 -- ---- what loads it ----
 
--- a front whose counter/timer has gone on, by the pulses since there were `base`, from a start of one with the preload and the bit of `before`
-pub record Went (mode base : ℕ) (before : Timer) (x : Elapsed) (f : Front) : Type 0 where
+-- a front whose counter/timer has gone on, by k pulses, from a start of one with the preload and the bit of `before`
+pub record Went (mode k : ℕ) (before : Timer) (f : Front) : Type 0 where
   pub from : Timer
   pub preload : from .preload ≡ before .preload
   pub ready : from .ready ≡ before .ready
-  pub goes : Goes mode base (startedOf from mode) x f
+  pub goes : Goes mode k (startedOf from mode) f
 
-core-started : (t : Timer) (mode : ℕ) → core (startedOf t mode) ≡ startedOf (core t) mode
+pub core-started : (t : Timer) (mode : ℕ) → core (startedOf t mode) ≡ startedOf (core t) mode
 unfolding startedOf
 core-started t mode = pick-with core (isTimer mode) refl refl
 
 -- a start
-started-went : (mode : ℕ) (x : Elapsed) (f : Front) → modeOf (f .acr) ≡ mode → Phased x f
-    → Went mode (x .pulses) (f .timer) (elapsedThen mode x (Read 14)) (frontThen f (Read 14))
-unfolding afterPulses elapsedThen pick
-started-went mode x f m p =
+started-went : (mode : ℕ) (f : Front) → modeOf (f .acr) ≡ mode → Went mode 0 (f .timer) (frontThen f (Read 14))
+unfolding afterPulses pick
+started-went mode f m =
     record {
       from = core (f .timer);
       preload = refl;
       ready = refl;
       goes =
           record {
-            more = omega arith;
             chosen = ap modeOf (acr-next f (Read 14)) ∙ m;
-            told = rw (front-read f 14, m, sub-self) (core-started (f .timer) mode);
-            phased = phased-next mode x f (Read 14) p;
+            told = rw (front-read f 14, m) (core-started (f .timer) mode);
           };
     }
 
 -- a change to a timer mode: a timer that runs is as one that was started
-changed-went : (mode byte : ℕ) (x : Elapsed) (f : Front) → modeOf byte ≡ mode → eqb (modeOf (f .acr)) mode ≡ false → isTimer mode ≡ true → Phased x f
-    → Went mode (x .pulses) (f .timer) (elapsedThen mode x (Write 4 byte)) (frontThen f (Write 4 byte))
-unfolding afterPulses elapsedThen pick
-changed-went mode byte x f m d h p =
+changed-went : (mode byte : ℕ) (f : Front) → modeOf byte ≡ mode → eqb (modeOf (f .acr)) mode ≡ false → timerIn mode ≡ true
+    → Went mode 0 (f .timer) (frontThen f (Write 4 byte))
+unfolding afterPulses pick
+changed-went mode byte f m d h =
     record {
       from = from;
       preload = refl;
       ready = refl;
       goes =
           record {
-            more = omega arith;
             chosen = ap modeOf (acr-next f (Write 4 byte)) ∙ m;
-            told = rw (front-written f 4 byte, sub-self, obeys .startsTimer from mode h) loaded;
-            phased = phased-next mode x f (Write 4 byte) p;
+            told = rw (front-written f 4 byte, obeys .startsTimer from mode h) loaded;
           };
     }
   where
@@ -86,53 +81,47 @@ changed-went mode byte x f m d h p =
 
 -- ---- and what leaves it alone after it ----
 
-went-over : (mode base : ℕ) (before : Timer) (x : Elapsed) (f : Front) (fs : List Event) → Apart mode → eachOf leavesCounter fs ≡ true
-    → Went mode base before x f → Went mode base before (over (elapsedThen mode) x fs) (over frontThen f fs)
-went-over mode base before x f fs a l w =
-    record { from = w .from; preload = w .preload; ready = w .ready; goes = goes-over mode base _ x f fs a l (w .goes) }
-
 -- since a chip reset
-abbrev pub WentBy : ℕ → ℕ → List Event → List Event → Type 0
-WentBy mode levels es fs =
-    Went mode (pulsesAfter mode levels es) (frontAfter levels es .timer) (elapsedAt mode levels (es ++ fs)) (frontAfter levels (es ++ fs))
+abbrev pub WentBy : ℕ → ℕ → List Event → Event → List Event → Type 0
+WentBy mode levels es load fs = Went mode (since mode levels es load fs) (frontAfter levels es .timer) (frontAfter levels (es ++ load ∷ fs))
 
 went-by : (levels mode : ℕ) (es fs : List Event) (load : Event) → Loaded mode es load fs
-    → Went mode (pulsesAfter mode levels es) (frontAfter levels es .timer) (elapsedThen mode (elapsedAt mode levels es) load)
-    (frontThen (frontAfter levels es) load)
-    → WentBy mode levels es (load ∷ fs)
-unfolding over
+    → Went mode 0 (frontAfter levels es .timer) (frontThen (frontAfter levels es) load) → WentBy mode levels es load fs
 went-by levels mode es fs load s w =
-    rw (over-append (elapsedThen mode) _ es (load ∷ fs), over-append frontThen (frontAt levels) es (load ∷ fs))
-    (went-over mode _ _ _ _ fs (s .clock) (s .left) w)
+    record {
+      from = w .from;
+      preload = w .preload;
+      ready = w .ready;
+      goes =
+          rw (append-assoc es (load ∷ []) fs, zero-add) at
+          (goes-over mode 0 (startedOf (w .from) mode) levels (andThen es load) fs (s .left) (rw (over-then frontThen (frontAt levels) es load) (w .goes)));
+    }
 
 -- from a start on
-pub started-told : (levels mode : ℕ) (es fs : List Event) → Loaded mode es (Read 14) fs → WentBy mode levels es (Read 14 ∷ fs)
+pub started-told : (levels mode : ℕ) (es fs : List Event) → Loaded mode es (Read 14) fs → WentBy mode levels es (Read 14) fs
 started-told levels mode es fs s =
     let chosen : modeOf (frontAfter levels es .acr) ≡ mode = rw (← acr-told levels es) (eqb-true _ mode (s .loaded)) in
-    went-by levels mode es fs (Read 14) s (started-went mode _ (frontAfter levels es) chosen (phased-told mode levels es))
+    went-by levels mode es fs (Read 14) s (started-went mode (frontAfter levels es) chosen)
 
 -- from any load on, in a timer mode
-pub loaded-told : (levels mode : ℕ) (es fs : List Event) (load : Event) → Loaded mode es load fs → isTimer mode ≡ true
-    → WentBy mode levels es (load ∷ fs)
+pub loaded-told : (levels mode : ℕ) (es fs : List Event) (load : Event) → Loaded mode es load fs → timerIn mode ≡ true
+    → WentBy mode levels es load fs
 loaded-told levels mode es fs load s h = went-by levels mode es fs load s (go load (s .loaded))
   where
     f : Front
     f = frontAfter levels es
 
-    x : Elapsed
-    x = elapsedAt mode levels es
-
-    go : (load : Event) → loads mode es load ≡ true → Went mode (x .pulses) (f .timer) (elapsedThen mode x load) (frontThen f load)
+    go : (load : Event) → loads mode es load ≡ true → Went mode 0 (f .timer) (frontThen f load)
     go ChipReset l = absurd (true≢false (sym l))
     go (Read n) l =
         let both = and-eq-true-iff (eqb n 14) _ .0 l in
         let chosen : modeOf (f .acr) ≡ mode = rw (← acr-told levels es) (eqb-true _ mode (both .1)) in
-        rw (eqb-true n 14 (both .0)) (started-went mode x f chosen (phased-told mode levels es))
+        rw (eqb-true n 14 (both .0)) (started-went mode f chosen)
     go (Write n byte) l =
         let both = and-eq-true-iff (eqb n 4) _ .0 l in
         let change = and-eq-true-iff (eqb (modeOf byte) mode) _ .0 (both .1) in
         let other : eqb (modeOf (f .acr)) mode ≡ false = rw (← acr-told levels es) (not-true _ (change .1)) in
-        rw (eqb-true n 4 (both .0)) (changed-went mode byte x f (eqb-true _ mode (change .0)) other h (phased-told mode levels es))
+        rw (eqb-true n 4 (both .0)) (changed-went mode byte f (eqb-true _ mode (change .0)) other h)
     go Acknowledge l = absurd (true≢false (sym l))
     go (Pins levels) l = absurd (true≢false (sym l))
     go Tick l = absurd (true≢false (sym l))
@@ -140,24 +129,24 @@ loaded-told levels mode es fs load s h = went-by levels mode es fs load s (go lo
 -- ---- where it is then ----
 
 -- a counter
-pub counter-count : (mode base : ℕ) (t : Timer) (x : Elapsed) (f : Front) → Went mode base t x f → isTimer mode ≡ false → t .preload < 65536
-    → f .timer .count ≡ (t .preload + 65535 * (x .pulses - base)) % 65536
-counter-count mode base t x f w h l =
+pub counter-count : (mode k : ℕ) (t : Timer) (f : Front) → Went mode k t f → timerIn mode ≡ false → t .preload < 65536
+    → f .timer .count ≡ (t .preload + 65535 * k) % 65536
+counter-count mode k t f w h l =
     ap (λ (u : Timer). u .count) (w .goes .told)
-    ∙ rw (← w .preload) (counts .count (w .from) mode (x .pulses - base) h (rw (w .preload) l))
+    ∙ rw (← w .preload) (counts .count (w .from) mode k h (rw (w .preload) l))
 
-pub counter-ready : (mode base : ℕ) (t : Timer) (x : Elapsed) (f : Front) → Went mode base t x f → isTimer mode ≡ false → t .preload < 65536
-    → f .timer .ready ≡ (t .ready || leb (pulsesOf (t .preload)) (x .pulses - base))
-counter-ready mode base t x f w h l =
+pub counter-ready : (mode k : ℕ) (t : Timer) (f : Front) → Went mode k t f → timerIn mode ≡ false → t .preload < 65536
+    → f .timer .ready ≡ (t .ready || leb (pulsesOf (t .preload)) k)
+counter-ready mode k t f w h l =
     ap (λ (u : Timer). u .ready) (w .goes .told)
-    ∙ rw (← w .preload, ← w .ready) (counts .sets (w .from) mode (x .pulses - base) h (rw (w .preload) l))
+    ∙ rw (← w .preload, ← w .ready) (counts .sets (w .from) mode k h (rw (w .preload) l))
 
 -- a timer
-pub timer-ready : (mode base : ℕ) (t : Timer) (x : Elapsed) (f : Front) → Went mode base t x f → isTimer mode ≡ true → t .preload < 65536
-    → f .timer .ready ≡ (t .ready || leb (2 * pulsesOf (t .preload)) (x .pulses - base))
-timer-ready mode base t x f w h l =
+pub timer-ready : (mode k : ℕ) (t : Timer) (f : Front) → Went mode k t f → timerIn mode ≡ true → t .preload < 65536
+    → f .timer .ready ≡ (t .ready || leb (2 * pulsesOf (t .preload)) k)
+timer-ready mode k t f w h l =
     ap (λ (u : Timer). u .ready) (w .goes .told)
-    ∙ rw (← w .preload, ← w .ready) (toggles .ready (w .from) mode (x .pulses - base) h (rw (w .preload) l))
+    ∙ rw (← w .preload, ← w .ready) (toggles .ready (w .from) mode k h (rw (w .preload) l))
 
 preload-after : (mode : ℕ) (t : Timer) (k : ℕ) → afterPulses pulsedBy mode t k .preload ≡ t .preload
 unfolding afterPulses
@@ -174,7 +163,7 @@ pub record Since (k preload : ℕ) (t : Timer) : Type 0 where
   pub loaded : t .preload ≡ preload
   pub gone : Gone k t
 
-since-start : (t : Timer) (mode k : ℕ) → isTimer mode ≡ true → t .preload < 65536
+since-start : (t : Timer) (mode k : ℕ) → timerIn mode ≡ true → t .preload < 65536
     → Since k (t .preload) (afterPulses pulsedBy mode (startedOf t mode) k)
 since-start t mode k h l =
     rw (obeys .startsTimer t mode h)
@@ -190,9 +179,8 @@ since-start t mode k h l =
 pub since-phases : (k preload : ℕ) (t : Timer) (x : Ticks) (y : Pulses) → Since k preload t → Since k preload (withPhases t x y)
 since-phases k preload t x y s = record { loaded = s .loaded; gone = record { count = s .gone .count; output = s .gone .output } }
 
-pub timer-since : (mode base : ℕ) (t : Timer) (x : Elapsed) (f : Front) → Went mode base t x f → isTimer mode ≡ true → t .preload < 65536
-    → Since (x .pulses - base) (t .preload) (f .timer)
-timer-since mode base t x f w h l =
-    let k = x .pulses - base in
+pub timer-since : (mode k : ℕ) (t : Timer) (f : Front) → Went mode k t f → timerIn mode ≡ true → t .preload < 65536
+    → Since k (t .preload) (f .timer)
+timer-since mode k t f w h l =
     let from = rw (← w .goes .told, w .preload) at (since-start (w .from) mode k h (rw (w .preload) l)) in
     since-phases k (t .preload) (core (f .timer)) (f .timer .ticks) (f .timer .edges) from

@@ -12,6 +12,7 @@ use Rattle.timer_state.specs.declared.counting.Timer.{Timer}
 use Rattle.timer_state.specs.Counting.{withReady, modeOf, isTimer, countedDown, transmitterPulses, counterPulsed, timerPulsed, pulsedBy}
 use Rattle.timer.specs.Timer.{tickedBy, edgedBy, stoppedOf, transmittedBy}
 use Rattle.timer.proofs.Counts.{counts, obeys}
+use Rattle.timer.proofs.Modes.{timer-mode}
 use Rattle.timer.proofs.Sources.{leaves}
 use Rattle.inputs.specs.Inputs.{risesOf}
 use Rattle.front.specs.declared.front.Front.{Front}
@@ -31,7 +32,7 @@ use Rattle.demands.proofs.Laws.Counting.{read-left, written-left, acr-l
 -- a counter that does not run takes no pulse, whatever its clock
 pulsed-halted : (t : Timer) (mode : ℕ) (pulse : Bool) → isTimer mode ≡ false → t .running ≡ false
     → (pulsedBy t mode pulse .timer .running ≡ false) × (pulsedBy t mode pulse .timer .count ≡ t .count)
-pulsed-halted t mode true h r = rw (counts .halted t mode h r) (r, refl)
+pulsed-halted t mode true h r = rw (counts .halted t mode (sym (timer-mode mode) ∙ h) r) (r, refl)
 pulsed-halted t mode false h r = rw (leaves .still t mode) (r, refl)
 
 counted-halted : (f : Front) (before : ℕ) (tick : Bool) → isTimer (modeOf (f .acr)) ≡ false → f .timer .running ≡ false
@@ -85,7 +86,7 @@ pub halted-change : (f : Front) (byte : ℕ) → eqb (modeOf (f .acr)) (modeOf b
     → Halted (f .timer .preload) (frontThen f (Write 4 byte))
 unfolding pick
 halted-change f byte d h =
-    rw (front-written f 4 byte, obeys .changes (f .timer) (f .acr) byte d, h) (record { chosen = h; stopped = refl; count = refl })
+    rw (front-written f 4 byte, obeys .changes (f .timer) (f .acr) byte d, sym (timer-mode (modeOf byte)) ∙ h) (record { chosen = h; stopped = refl; count = refl })
 
 -- ---- a timer that was stopped ----
 
@@ -165,4 +166,4 @@ cleared-over f g (e ∷ es) l h =
 -- the stop itself
 pub cleared-stop : (f : Front) → isTimer (modeOf (f .acr)) ≡ true → cleared (frontThen f (Read 15)) ≡ cleared f
 unfolding pick
-cleared-stop f h = rw (front-read f 15, obeys .stopsTimer (f .timer) (modeOf (f .acr)) h)
+cleared-stop f h = rw (front-read f 15, obeys .stopsTimer (f .timer) (modeOf (f .acr)) (sym (timer-mode (modeOf (f .acr))) ∙ h))

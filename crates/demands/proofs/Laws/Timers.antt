@@ -24,7 +24,7 @@ use Rattle.events.specs.declared.events.Event.the-variants.{ChipReset, Read, Wr
 use Rattle.demands.specs.Chip.{over}
 use Rattle.demands.specs.Told.{levelsThen}
 use Rattle.demands.specs.Clocks.{frontThen, frontAfter}
-use Rattle.demands.specs.Counter.{preloadThen, preloadAfter, Elapsed, elapsedThen}
+use Rattle.demands.specs.Counter.{preloadThen, preloadAfter, Elapsed, elapsedThen, elapsedAfter}
 use Rattle.demands.proofs.Laws.Fronts.{frontRead, frontWritten, frontMoved, frontNext, front-next}
 use Rattle.demands.proofs.Laws.Told.{follows, pick-with, levels-next}
 
@@ -92,21 +92,21 @@ pub record Phased (x : Elapsed) (f : Front) : Type 0 where
 abbrev pub pinsCounted : Front → ℕ → ℕ → Counted
 pinsCounted f before levels = pick (risesOf before levels 2) (edgedBy (f .timer) (modeOf (f .acr))) (record { timer = f .timer; toggled = false })
 
-phases-next : (mode : ℕ) (x : Elapsed) (f : Front) (e : Event) → Phased x f
-    → PhasesAt (elapsedThen mode x e .ticks) (elapsedThen mode x e .edges) (frontNext f e .timer)
+phases-next : (x : Elapsed) (f : Front) (e : Event) → Phased x f
+    → PhasesAt (elapsedThen x e .ticks) (elapsedThen x e .edges) (frontNext f e .timer)
 unfolding elapsedThen frontAt countedOf movedOf pick
-phases-next mode x f e p = go e
+phases-next x f e p = go e
   where
     here : PhasesAt (x .ticks) (x .edges) (f .timer)
     here = record { ticks = p .ticks; edges = p .edges }
 
     moved : (levels : ℕ) (t : Bool) → risesOf (x .levels) levels 2 ≡ t
-        → PhasesAt (elapsedThen mode x (Pins levels) .ticks) (elapsedThen mode x (Pins levels) .edges)
+        → PhasesAt (elapsedThen x (Pins levels) .ticks) (elapsedThen x (Pins levels) .edges)
         (pinsCounted f (x .levels) levels .timer)
     moved levels true e = rw e (edged-at (x .ticks) (x .edges) (f .timer) (modeOf (f .acr)) here)
     moved levels false e = rw e here
 
-    go : (e : Event) → PhasesAt (elapsedThen mode x e .ticks) (elapsedThen mode x e .edges) (frontNext f e .timer)
+    go : (e : Event) → PhasesAt (elapsedThen x e .ticks) (elapsedThen x e .edges) (frontNext f e .timer)
     go ChipReset = record { ticks = refl; edges = refl }
     go (Read n) = kept-at _ _ (f .timer) _ (read-phases f n) here
     go (Write n byte) = kept-at _ _ (f .timer) _ (written-phases f n byte) here
@@ -114,28 +114,32 @@ phases-next mode x f e p = go e
     go (Pins levels) = rw (p .levels) (pulsed-at _ _ _ (modeOf (f .acr)) _ (moved levels (risesOf (x .levels) levels 2) refl))
     go Tick = pulsed-at _ _ _ (modeOf (f .acr)) _ (ticked-at (x .ticks) (x .edges) (f .timer) (modeOf (f .acr)) here)
 
-levels-elapsed : (mode : ℕ) (x : Elapsed) (e : Event) → elapsedThen mode x e .levels ≡ levelsThen (x .levels) e
+levels-elapsed : (x : Elapsed) (e : Event) → elapsedThen x e .levels ≡ levelsThen (x .levels) e
 unfolding elapsedThen
-levels-elapsed mode x ChipReset = refl
-levels-elapsed mode x (Read n) = refl
-levels-elapsed mode x (Write n byte) = refl
-levels-elapsed mode x Acknowledge = refl
-levels-elapsed mode x (Pins levels) = pick-all (λ (y : Elapsed). y .levels ≡ levels) _ _ _ refl refl
-levels-elapsed mode x Tick = refl
+levels-elapsed x ChipReset = refl
+levels-elapsed x (Read n) = refl
+levels-elapsed x (Write n byte) = refl
+levels-elapsed x Acknowledge = refl
+levels-elapsed x (Pins levels) = pick-all (λ (y : Elapsed). y .levels ≡ levels) _ _ _ refl refl
+levels-elapsed x Tick = refl
 
-pub phased-next : (mode : ℕ) (x : Elapsed) (f : Front) (e : Event) → Phased x f → Phased (elapsedThen mode x e) (frontThen f e)
-phased-next mode x f e p =
-    let told = phases-next mode x f e p in
+pub phased-next : (x : Elapsed) (f : Front) (e : Event) → Phased x f → Phased (elapsedThen x e) (frontThen f e)
+phased-next x f e p =
+    let told = phases-next x f e p in
     record {
       ticks = rw (front-next f e) (told .ticks);
       edges = rw (front-next f e) (told .edges);
-      levels = levels-next f e ∙ rw (p .levels) (sym (levels-elapsed mode x e));
+      levels = levels-next f e ∙ rw (p .levels) (sym (levels-elapsed x e));
     }
 
-pub phased-over : (mode : ℕ) (x : Elapsed) (f : Front) (es : List Event) → Phased x f → Phased (over (elapsedThen mode) x es) (over frontThen f es)
+phased-over : (x : Elapsed) (f : Front) (es : List Event) → Phased x f → Phased (over elapsedThen x es) (over frontThen f es)
 unfolding over
-phased-over mode x f [] p = p
-phased-over mode x f (e ∷ es) p = phased-over mode (elapsedThen mode x e) (frontThen f e) es (phased-next mode x f e p)
+phased-over x f [] p = p
+phased-over x f (e ∷ es) p = phased-over (elapsedThen x e) (frontThen f e) es (phased-next x f e p)
+
+pub phased-told : (levels : ℕ) (es : List Event) → Phased (elapsedAfter levels es) (frontAfter levels es)
+unfolding frontAt
+phased-told levels es = phased-over _ (frontAt levels) es (record { ticks = refl; edges = refl; levels = refl })
 
 -- ---- the preload ----
 
