@@ -19,7 +19,7 @@ use Rattle.format.specs.Format.{mr1NotModelled, mr2NotModelled}
 use Rattle.outputs.specs.Outputs.{opcrNotModelled}
 use Rattle.request.specs.Request.{lengthAsked}
 use Rattle.clocks.specs.Pulses.Side.{receives, transmits}
-use Rattle.timer_state.specs.Counting.{modeOf, isTimer}
+use Rattle.timer.specs.Modes.{timerIn}
 use Rattle.format.specs.Pick.{pick}
 use Rattle.queue.specs.Queue.{heldOf}
 use Rattle.clocks.specs.Channel.{sideOf}
@@ -37,8 +37,8 @@ use Rattle.demands.specs.Told.{programmed}
 use Rattle.demands.specs.Clocks as inDemands
 use Rattle.demands.specs.Clocks.{pulsedAfter}
 use Rattle.demands.specs.Demand1.{requestFrame}
-use Rattle.demands.specs.Registers.{ivrAfter, acrAfter, opcrThen, readsNothing}
-use Rattle.demands.specs.Counter.{elapsedThen, leavesCounter, loads, since, Loaded, countShown}
+use Rattle.demands.specs.Registers.{ivrAfter, modeAfter, opcrThen, readsNothing}
+use Rattle.demands.specs.Counter.{leavesCounter, loads, since, Loaded, countShown}
 use Rattle.demands.specs.Pulses.{ticksAfter, clocks, codeAfter}
 use Rattle.demands.specs.Cases.{heard, fiveArrive}
 use Rattle.demands.specs.Delivery.{ledger, readFrom, held}
@@ -123,7 +123,7 @@ pub record OnPin3 : Type 0 where
   -- OPCR 3-2 = 00; and 01, in counter mode, where OP3 is low after the terminal
   pub plain : eqb (over opcrThen 0 [] / 4 % 4) 1 ≡ false
   pub chosen : eqb (over opcrThen 0 (Write 13 4 ∷ []) / 4 % 4) 1 ≡ true
-  pub counter : isTimer (modeOf (acrAfter (Write 13 4 ∷ []))) ≡ false
+  pub counter : timerIn (modeAfter (Write 13 4 ∷ [])) ≡ false
   pub low : hasBit (linesAfter chip 255 (started (Write 13 4 ∷ counts 48 3) (ticks 48)) .op) 3 ≡ false
 
 -- ---- Counter ----
@@ -143,7 +143,7 @@ pub record Counted : Type 0 where
   pub count : countShown chip 255 (started (counts 48 3) (ticks 47)) ≡ 1
   pub edges : since 0 255 (counts 0 3) (Read 14) edge ≡ 1
   -- one that is stopped, or whose mode is changed, does not count
-  pub stopped : (isTimer (modeOf (acrAfter (counts 48 3))) ≡ false) × (eachOf leavesCounter (ticks 48) ≡ true)
+  pub stopped : (timerIn (modeAfter (counts 48 3)) ≡ false) × (eachOf leavesCounter (ticks 48) ≡ true)
   pub changed : (loads 3 (counts 0 3) (Write 4 48) ≡ true) × (countShown chip 255 (counts 0 3 ++ Write 4 48 ∷ ticks 48) ≡ 3)
 
 pub record Timed : Type 0 where
@@ -156,7 +156,7 @@ pub record Timed : Type 0 where
   pub chosen : eqb (over opcrThen 0 (started timed (ticks 4)) / 4 % 4) 1 ≡ true
   pub low : hasBit (linesAfter chip 255 (started timed (ticks 3)) .op) 3 ≡ false
   pub high : hasBit (linesAfter chip 255 (started timed (ticks 4)) .op) 3 ≡ true
-  pub stopped : isTimer (modeOf (acrAfter timed)) ≡ true
+  pub stopped : timerIn (modeAfter timed) ≡ true
 
 -- ---- Pulses ----
 
@@ -175,7 +175,7 @@ pub record Clocked : Type 0 where
 
 pub record ByTimer : Type 0 where
   -- 13 in counter mode: no pulse, at the terminal either
-  pub counter : (codeAfter transmits A (coded 221) ≡ 13) × (isTimer (modeOf (acrAfter (coded 221))) ≡ false)
+  pub counter : (codeAfter transmits A (coded 221) ≡ 13) × (timerIn (modeAfter (coded 221)) ≡ false)
   pub none : pulsedAfter transmits A 255 (coded 221 ++ started (counts 48 3) (ticks 47)) Tick ≡ false
   -- 13 in timer mode after a start: every second terminal
   pub code : codeAfter transmits A (started (coded 221 ++ timed) (ticks 3)) ≡ 13
@@ -217,7 +217,7 @@ pub record Examples : Type 0 where
   pub fated : Fated
 
 pub examples : Examples
-unfolding computing elapsedThen heard feedsFrom
+unfolding computing heard feedsFrom
 examples =
     let written : ledger A 255 readOne ≡ Receivers.ledger (feedsFrom A (frontAt 255) readOne) = ledger-after A 255 readOne in
     record {
@@ -232,11 +232,11 @@ examples =
       shown = record { accepted = refl; vector = (refl, refl); unread = refl; looks = refl; disabled = refl; empty = refl; character = refl; block = refl };
       onPin3 = record { plain = refl; chosen = refl; counter = refl; low = refl };
       loads = record {
-        counter = record { loaded = refl; clock = (λ h. omega arith, λ h. omega arith); preload = omega arith; left = refl };
-        edges = record { loaded = refl; clock = (λ h. omega arith, λ h. omega arith); preload = omega arith; left = refl };
-        timer = record { loaded = refl; clock = (λ h. omega arith, λ h. omega arith); preload = omega arith; left = refl };
-        change = record { loaded = refl; clock = (λ h. omega arith, λ h. omega arith); preload = omega arith; left = refl };
-        clock = record { loaded = refl; clock = (λ h. omega arith, λ h. omega arith); preload = omega arith; left = refl };
+        counter = record { loaded = refl; preload = omega arith; left = refl };
+        edges = record { loaded = refl; preload = omega arith; left = refl };
+        timer = record { loaded = refl; preload = omega arith; left = refl };
+        change = record { loaded = refl; preload = omega arith; left = refl };
+        clock = record { loaded = refl; preload = omega arith; left = refl };
       };
       counted = record { three = refl; terminal = refl; count = refl; edges = refl; stopped = (refl, refl); changed = (refl, refl) };
       timed = record { four = (refl, refl); toggled = refl; not-yet = refl; by-change = refl; chosen = refl; low = refl; high = refl; stopped = refl };

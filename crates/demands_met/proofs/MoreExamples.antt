@@ -1,6 +1,6 @@
 -- More of what the statements suppose is met by some events, by computing the definitions, and with what they then say of them: what leaves the
 -- counter/timer, its toggle as a clock, the 1X transmitter clocks, and CTS. Assumes nothing.
-use Prim.Native.Nat.{ℕ, zero, suc}
+use Prim.Native.Nat.{ℕ, zero, suc, _/_, _%_}
 use mathlib.Core.Path.{_≡_, refl}
 use mathlib.Core.Bool.{true, false}
 use mathlib.Core.List.{List, [], _∷_, _++_}
@@ -8,17 +8,17 @@ use lib.Dec.{eqb}
 use Rattle.events.specs.declared.events.Event.{Event}
 use Rattle.events.specs.declared.events.Event.the-variants.{Read, Write, Pins, Tick}
 use Rattle.clocks.specs.Pulses.Side.{transmits}
-use Rattle.timer_state.specs.Counting.{modeOf, isTimer}
+use Rattle.timer.specs.Modes.{timerIn}
 use Rattle.sampler_hunting.specs.Hunting.{waited}
 use Rattle.transmitter.specs.Frames.{free}
 use Rattle.bytes.specs.Bytes.{hasBit}
 use Rattle.demands.specs.Chip.{andThen, shows, statusBit}
 use Rattle.demands.specs.Chip.Channel.{A}
 use Rattle.demands.specs.Told.{levelsAfter, programmed}
-use Rattle.demands.specs.Clocks.{pulsedAfter}
-use Rattle.demands.specs.Registers.{acrAfter}
+use Rattle.demands.specs.Clocks.{pulsedAfter, oneAfter}
+use Rattle.demands.specs.Registers.{modeAfter}
 use Rattle.demands.specs.Counter.{countShown}
-use Rattle.demands.specs.Counted.{oneAfter, timerThen, timerFrom, timerAfter}
+use Rattle.demands.specs.Counted.{timerThen, timerFrom, timerAfter}
 use Rattle.demands.specs.Pulses.{clocks, codeAfter, sentSince, sentAfter}
 use Rattle.demands.specs.Sending.{inputsAt, inputsFrom, senderAfter}
 use Rattle.demands.proofs.Laws.Looks.{chip}
@@ -58,7 +58,7 @@ pub record Left : Type 0 where
   pub starts : hasBit (shows chip 255 (andThen rung (Read 14)) 5) 3 ≡ true
   pub changes : hasBit (shows chip 255 (andThen rung (Write 4 96)) 5) 3 ≡ true
   -- a write of ACR that leaves the mode, and of a preload: the count of 0 stays
-  pub same : eqb (modeOf (acrAfter rung)) (modeOf 176) ≡ true
+  pub same : eqb (modeAfter rung) (176 / 16 % 8) ≡ true
   pub kept : (countShown chip 255 (andThen rung (Write 4 176)) ≡ 0) × (countShown chip 255 (andThen rung (Write 7 5)) ≡ 0)
 
 -- ---- Pulses, Ones ----
@@ -66,7 +66,7 @@ pub record Left : Type 0 where
 pub record Turned : Type 0 where
   -- the output is low from the first tick, and high again from the third
   pub code : codeAfter transmits A (turned 2) ≡ 13
-  pub mode : isTimer (modeOf (acrAfter (turned 2))) ≡ true
+  pub mode : timerIn (modeAfter (turned 2)) ≡ true
   pub low : timerAfter 255 (turned 2) .output ≡ false
   pub high : timerAfter 255 (turned 3) .output ≡ true
   pub pulse : pulsedAfter transmits A 255 (turned 2) Tick ≡ true
@@ -104,7 +104,7 @@ pub record MoreExamples : Type 0 where
   pub waited : Waited
 
 pub more-examples : MoreExamples
-unfolding computing timerThen timerFrom sentSince oneAfter inputsAt inputsFrom
+unfolding computing timerThen timerFrom sentSince inputsAt inputsFrom
 more-examples =
     record {
       left = record { set = refl; starts = refl; changes = refl; same = refl; kept = (refl, refl) };

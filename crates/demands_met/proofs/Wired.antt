@@ -24,7 +24,6 @@ use Rattle.frame.specs.Levels.{frame}
 use Rattle.queue.specs.Queue.{heldOf}
 use Rattle.receiver.specs.Receiver.{fedOf}
 use Rattle.clocks.specs.Channel.{sideOf}
-use Rattle.timer_state.specs.Counting.{pulsedBy}
 use Rattle.front.specs.Front.{frontAt}
 use Rattle.chip_step.specs.Chip.{stepOf}
 use Rattle.chip_laws.specs.Sound.{after}

@@ -18,7 +18,7 @@ use Rattle.chip_device.specs.declared.device.Device.{Device}
 use Rattle.chip_laws.specs.Table.{Step}
 use Rattle.chip_laws.proofs.Wrong.{isReset, isReadOf}
 use Rattle.demands.specs.Chip.{chipOf}
-use Rattle.demands.specs.Counter.{elapsedThen, Loaded, Counter}
+use Rattle.demands.specs.Counter.{Loaded, Counter}
 use Rattle.demands.specs.Counted.{timerThen, timerFrom, Counted}
 use Rattle.demands_shut_out.proofs.Chips.{isWriteOf, isClock, withFront, neverTerminal, countsNothing, leadsTo, stopsNothing}
 use Rattle.demands.proofs.Computing.{computing}
@@ -126,7 +126,7 @@ pub record WrongCounter : Type 0 where
   pub no-stopHalts : Counted (chipOf stopHalts) → ⊥
 
 pub wrong-counter : WrongCounter
-unfolding computing elapsedThen timerThen timerFrom
+unfolding computing timerThen timerFrom
 wrong-counter =
     record {
       no-countsNothing = λ h. eqb-false 0 1 refl (h .count 255 3 (preloaded 3) [] counter refl);
@@ -150,13 +150,13 @@ wrong-counter =
     }
   where
     counter : Started 3 []
-    counter = record { loaded = refl; clock = (eqb-false 3 1 refl, eqb-false 3 2 refl); preload = one-preload; left = refl }
+    counter = record { loaded = refl; preload = one-preload; left = refl }
 
     counter-on : Started 3 sixteen
-    counter-on = record { loaded = refl; clock = (eqb-false 3 1 refl, eqb-false 3 2 refl); preload = one-preload; left = refl }
+    counter-on = record { loaded = refl; preload = one-preload; left = refl }
 
     loaded : Started 6 []
-    loaded = record { loaded = refl; clock = (eqb-false 6 1 refl, eqb-false 6 2 refl); preload = one-preload; left = refl }
+    loaded = record { loaded = refl; preload = one-preload; left = refl }
 
     timer : Started 6 (Tick ∷ Tick ∷ [])
-    timer = record { loaded = refl; clock = (eqb-false 6 1 refl, eqb-false 6 2 refl); preload = one-preload; left = refl }
+    timer = record { loaded = refl; preload = one-preload; left = refl }

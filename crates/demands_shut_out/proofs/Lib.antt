@@ -2,6 +2,7 @@
 pub mod Chips
 pub mod Laws
 pub mod Counter
+pub mod Modes
 pub mod Received
 pub mod Delivery
 pub mod Sending
