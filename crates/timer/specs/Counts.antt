@@ -103,4 +103,5 @@ pub record Obeys (start stop : Command) (change : Timer → ℕ → ℕ → Time
   -- write does nothing
   pub changes : (t : Timer) (before after : ℕ) → eqb (before / 16 % 8) (after / 16 % 8) ≡ false
       → change t before after ≡ withRunning (withCount t (t .preload) true) (timerIn (after / 16 % 8))
-  pub unchanged : (t : Timer) (before after : ℕ) → eqb (before / 16 % 8) (after / 16 % 8) ≡ true → change t before after ≡ t
+  pub unchanged : (t : Timer) (before after : ℕ) → eqb (before / 16 % 8) (after / 16 % 8) ≡ true
+      → change t before after ≡ t

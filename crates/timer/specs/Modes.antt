@@ -17,7 +17,7 @@ pub record Comes : Type 0 where
   pub ticksBy16 : Bool
 
 -- "ACR 6-4: 0-3 counter on rising IP2, TxCA 1X, TxCB 1X, ticks/16; 4-7 timer on rising IP2, IP2/16, ticks, ticks/16.":
--- whether the clock of a mode has. Bits 6-4 make no mode above 7.
+-- whether the clock of a mode is among them. Bits 6-4 make no mode above 7.
 unfoldable pub pulseIn : ℕ → Comes → Bool
 pulseIn mode c =
     pick (eqb mode 0) (c .ip2)
@@ -46,7 +46,8 @@ anEdge sixteenth =
 abbrev pub ones : Bool → Bool → Comes
 ones a b = record { ip2 = false; ip2By16 = false; txca = a; txcb = b; ticks = false; ticksBy16 = false }
 
--- the mode that a byte in ACR chooses, and tests of a mode: whether a tick, an edge and the transmitters' clocks pulse it, and whether it is a timer's
+-- the mode that a byte in ACR chooses, and tests of a mode: whether a tick, an edge and the transmitters' clocks pulse
+-- it, and whether it is a timer's
 pub record Tests : Type 0 where
   pub mode : ℕ → ℕ
   pub tick : ℕ → Bool → Bool
