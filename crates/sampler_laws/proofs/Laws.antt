@@ -2,3 +2,5 @@
 pub mod Samples
 pub mod Stopped
 pub mod Characters
+pub mod Told
+pub mod ToldAfter

@@ -2,6 +2,7 @@
 pub mod Laws
 pub mod Sampling
 pub mod Enabling
+pub mod Confirms
 pub mod BreakChange
 pub mod Examples
 pub mod Wrong

@@ -15,6 +15,7 @@ use Rattle.character.specs.declared.character.Character.{Character}
 use Rattle.character.specs.Character.{breakCharacter}
 use Rattle.feed.specs.declared.feed.Setting.{Setting}
 use Rattle.sampler_state.specs.declared.state.Sampler.{Sampler}
+use Rattle.sampler_hunting.specs.declared.hunting.Sampled.{Sampled}
 use Rattle.sampler.specs.Lines.{Line, hears}
 use Rattle.sampler.specs.Lines.Line.{pulse, enable, disable}
 
@@ -187,6 +188,9 @@ pub record BreakChange (flags : Flags) : Type 0 where
       ≡ replicate (length ls) false ++ true ∷ replicate (length lows) false ++ true ∷ []
 
 -- as a sampler run alone tells it
+abbrev pub toldFrom : (Sampled → Bool) → Sampler → List Line → List Bool
+toldFrom q s [] = []
+toldFrom q s (x ∷ xs) = q (hears s x) ∷ toldFrom q (hears s x .next) xs
+
 abbrev pub flagsFrom : Sampler → List Line → List Bool
-flagsFrom s [] = []
-flagsFrom s (x ∷ xs) = hears s x .change ∷ flagsFrom (hears s x .next) xs
+flagsFrom s xs = toldFrom (λ (x : Sampled). x .change) s xs
