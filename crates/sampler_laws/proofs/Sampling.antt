@@ -5,7 +5,7 @@ use mathlib.Core.Path.{_≡_, refl, sym, ap, _∙_}
 use mathlib.Core.Bool.{Bool, true, false, true≢false}
 use mathlib.Core.List.{[], _∷_, _++_, append-assoc}
 use native.Mathlib.Omega.{arith}
-use native.Mathlib.Nat.{zero-add}
+use native.Mathlib.Nat.{zero-add, mul-suc}
 use lib.Dec.{eqb}
 use lib.ListN.{length, drop, drop-of-length-le}
 use borrow.Author.Tests.{lt-ltb, ne-eqb}
@@ -28,16 +28,17 @@ use Rattle.sampler_laws.proofs.Laws.Stopped.{lows-again, lows-until, ne
 -- ---- too few pulses ----
 
 -- with so many samples still to come before the stop's, and so many pulses before the next one
-unfinished : (f : Setting) (m n k v : ℕ) (ls : Found) → gapOf (f .sixteen) ≡ record { 0 = 15 } → k + m ≡ samplesOf (f .format) .0
-    → length ls < suc n + 16 * m → arrivals (assembling f (record { 0 = n }) (record { 0 = k }) v) (lines ls) ≡ []
+pub unfinished : (f : Setting) (g m n k v : ℕ) (ls : Found) → gapOf (f .sixteen) ≡ record { 0 = g } → k + m ≡ samplesOf (f .format) .0
+    → length ls ≤ n + suc g * m → arrivals (assembling f (record { 0 = n }) (record { 0 = k }) v) (lines ls) ≡ []
 unfolding arrivals hears sampleOf assembled sampled pick
-unfinished f m n k v [] e many l = refl
-unfinished f zero zero k v (p ∷ ls) e many l = absurd (omega arith)
-unfinished f (suc m) zero k v (p ∷ ls) e many l =
-    rw (lt-ltb k (samplesOf (f .format) .0) (omega arith), e) (unfinished f m 15 (k + 1) (withSample v k (p .0)) ls e (omega arith) (omega arith))
-unfinished f m (suc n) k v (p ∷ ls) e many l =
+unfinished f g m n k v [] e many l = refl
+unfinished f g zero zero k v (p ∷ ls) e many l = absurd (omega arith)
+unfinished f g (suc m) zero k v (p ∷ ls) e many l =
+    let more : suc g * suc m ≡ suc (g + suc g * m) = rw (mul-suc (suc g) m) (omega arith) in
+    rw (lt-ltb k (samplesOf (f .format) .0) (omega arith), e) (unfinished f g m g (k + 1) (withSample v k (p .0)) ls e (omega arith) (omega arith))
+unfinished f g m (suc n) k v (p ∷ ls) e many l =
     let d : suc n - 1 ≡ n = omega arith in
-    rw (ne-eqb (suc n) 0 (λ q. omega arith), d) (unfinished f m n k v ls e many (omega arith))
+    rw (ne-eqb (suc n) 0 (λ q. omega arith), d) (unfinished f g m n k v ls e many (omega arith))
 
 -- and from between the low at p and the pulse p+8 on
 unheard : (f : Setting) (n : ℕ) (ls : Found) → f .sixteen ≡ true → f .format .width .0 ≤ 8 → (suc n ≤ length ls → levelAt ls n ≡ false)
@@ -47,7 +48,7 @@ unheard f n [] x w low l = refl
 unheard f zero ((true, g) ∷ ls) x w low l = absurd (true≢false (low (omega arith)))
 unheard f zero ((false, g) ∷ ls) x w low l =
     let gap : gapOf (f .sixteen) ≡ record { 0 = 15 } = ap gapOf x in
-    rw gap (unfinished f (beforeStop (f .format)) 15 0 0 ls gap (zero-add _ ∙ sym (samples-before-stop (f .format) w)) (omega arith))
+    rw gap (unfinished f 15 (beforeStop (f .format)) 15 0 0 ls gap (zero-add _ ∙ sym (samples-before-stop (f .format) w)) (omega arith))
 unheard f (suc n) (p ∷ ls) x w low l =
     let d : suc n - 1 ≡ n = omega arith in
     rw (ne-eqb (suc n) 0 (λ q. omega arith), d) (unheard f n ls x w (λ h. low (omega arith)) (omega arith))

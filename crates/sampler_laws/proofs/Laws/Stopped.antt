@@ -39,6 +39,16 @@ lows-until (suc n) g ((false, f) ∷ lows) more a l =
     let d : suc n - 1 ≡ n = omega arith in
     rw (ne-eqb (suc n) 0 (λ q. omega arith), d) (lows-until n g lows more a (omega arith))
 
+-- or too few
+pub lows-fewer : (n : ℕ) (lows : Found) → allAt false lows ≡ true → length lows ≤ n → arrivals (afterLowStop n) (lines lows) ≡ []
+unfolding arrivals hears sampleOf followed pick
+lows-fewer n [] a l = refl
+lows-fewer n ((true, f) ∷ lows) a l = absurd (true≢false (sym a))
+lows-fewer zero ((false, f) ∷ lows) a l = absurd (omega arith)
+lows-fewer (suc n) ((false, f) ∷ lows) a l =
+    let d : suc n - 1 ≡ n = omega arith in
+    rw (ne-eqb (suc n) 0 (λ q. omega arith), d) (lows-fewer n lows a (omega arith))
+
 -- at 1X the next low is a start, as after a high
 pub next-low : (rest : Found) → arrivals (afterLowStop 0) (lines rest) ≡ arrivals (hunting true) (lines rest)
 unfolding arrivals hears sampleOf hunted followed pick
