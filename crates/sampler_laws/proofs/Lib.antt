@@ -7,3 +7,4 @@ pub mod Confirms
 pub mod BreakChange
 pub mod Examples
 pub mod Wrong
+pub mod WrongStarts
