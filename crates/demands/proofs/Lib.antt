@@ -13,6 +13,7 @@ pub mod Pulses
 pub mod Ones
 pub mod Delivery
 pub mod Received
+pub mod Starts
 pub mod Transmits
 pub mod Sends
 pub mod ReadBack

@@ -171,7 +171,8 @@ abbrev pub case6 : List Row
 case6 = asks 16 7 255 (value 5) 31 ∷ asks 16 7 255 pulses 120 ∷ []
 
 -- "Receiver only, 1, 2, 3, 4 arrive: SR 3; next start: SR 19; 5 arrives: reads 1, 2, 3, 5.": at 1X, where a low is a
--- start, and at 16X, where the ninth is
+-- start, and at 16X, where the ninth is; eight lows and then a high are none, and take nothing: "at p+8 it must still
+-- be low, else hunt again"
 abbrev pub case7 : List Row
 case7 =
     shows (fourArrive false) (Read 1) byte 3
@@ -183,6 +184,8 @@ case7 =
     ∷ shows (fourArrive true) (Read 1) byte 3
     ∷ shows (lowFor 8) (Read 1) byte 3
     ∷ shows (lowFor 9) (Read 1) byte 19
+    ∷ shows (lowFor 8 ++ heard (true ∷ [])) (Read 1) byte 3
+    ∷ shows (lowFor 8 ++ heard (true ∷ []) ++ Read 3 ∷ Read 3 ∷ Read 3 ∷ []) (Read 3) byte 4
     ∷ shows (fiveArrive true ++ Read 3 ∷ Read 3 ∷ Read 3 ∷ []) (Read 3) byte 5
     ∷ []
 

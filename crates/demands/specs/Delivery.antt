@@ -95,7 +95,7 @@ fateOf ch l (Pins x) = l
 fateOf ch l Tick = l
 
 -- what is heard: a confirmed start removes the one that waits, which is the fourth of those held; an arrival is entered
--- last, as held
+-- last, as held. When a start is confirmed `Confirms` says (crate sampler_laws), and `Leans` that these are its starts.
 abbrev pub heardAll : Ledger → List Line → Ledger
 heardAll l [] = l
 heardAll l (x ∷ xs) = heardAll (pulseWritten l (hears (l .sampler) x)) xs

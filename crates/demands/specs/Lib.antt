@@ -12,6 +12,7 @@ pub mod Counted
 pub mod Pulses
 pub mod Delivery
 pub mod Received
+pub mod Starts
 pub mod Sending
 pub mod ReadBack
 pub mod Cases

@@ -83,7 +83,8 @@ sumsFrom ch levels sums before (e ∷ es) =
 
 -- ---- break change ----
 
--- whether a sampler run alone says so of what it hears: "break change set; .. then break change is set again"
+-- whether a sampler run alone says so of what it hears: "break change set; .. then break change is set again". Of which
+-- lines it does `Changes` says (crate sampler_laws).
 abbrev pub changes : Sampler → List Line → Bool
 changes s [] = false
 changes s (x ∷ xs) = hears s x .change || changes (hears s x .next) xs

@@ -79,7 +79,7 @@ last-after levels B es = last-from levels B [] es
 -- ---- the ledger and the receiver, side by side ----
 
 -- one event more
-ledger-append : (ch : Channel) (levels : ℕ) (l : Ledger) (before es : List Event) (e : Event)
+pub ledger-append : (ch : Channel) (levels : ℕ) (l : Ledger) (before es : List Event) (e : Event)
     → ledgerFrom ch levels l before (andThen es e)
     ≡ heardAll (fateOf ch (ledgerFrom ch levels l before es) e) (linesAt ch levels (before ++ es) e)
 unfolding ledgerFrom
