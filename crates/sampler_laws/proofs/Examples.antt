@@ -1,7 +1,7 @@
 -- What the sampling rule supposes is met, by computing the definitions, with what then arrives: a frame, a low stop, a break, a low that is too short,
--- and at 1X; what an enable and a disable do, and break change. Assumes nothing.
-use mathlib.Core.Path.{_≡_, refl}
-use mathlib.Core.Bool.{Bool, true, false}
+-- and at 1X; what an enable and a disable do, and break change. The same of confirmed starts and of how long a break lasts. Assumes nothing.
+use mathlib.Core.Path.{_≡_, refl, sym}
+use mathlib.Core.Bool.{Bool, true, false, true≢false}
 use mathlib.Core.List.{List, [], _∷_, _++_, map}
 use native.Mathlib.Omega.{arith}
 use lib.Dec.{eqb}
@@ -16,6 +16,10 @@ use Rattle.sampler_state.specs.State.{hunting}
 use Rattle.sampler.specs.Lines.{Line, arrivals}
 use Rattle.sampler.specs.Lines.Line.{pulse, enable, disable}
 use Rattle.sampler_laws.specs.Sampling.{Found, lines, levelAt, samples, characterAt, allAt, allSixteen, Sixteen, sampleAt, stopAt, allLow, flagsFrom}
+use Rattle.sampler_laws.specs.Breaks.{One, Broken, Stopped, Unstopped, Run, runs, few, allFew, Ends}
+use Rattle.sampler_laws.specs.Breaks.Broken.{broken16, broken1}
+use Rattle.sampler_laws.specs.Breaks.Stopped.{stopped16, stopped1}
+use Rattle.sampler_laws.specs.Confirms.{startsFrom}
 use Rattle.sampler.proofs.Computing.{computing}
 
 -- MR1 19: 8 data bits, no parity; with 16X pulses, and with 1X
@@ -159,4 +163,82 @@ sampling-examples =
       seven-highs = (refl, refl);
       changes = refl;
       changes-once = refl;
+    }
+
+-- ---- confirmed starts, and how long a break lasts ----
+
+-- which of a low and these confirm a start, after a high
+abbrev starting : Setting → Found → List Bool
+starting f ls = startsFrom (hunting true) (pulse false f ∷ lines ls)
+
+-- no highs and a low, three and a low, seven and a low
+abbrev interruptions : List Run
+interruptions = ([], fast) ∷ (at fast (replicate 3 true), fast) ∷ (at fast (replicate 7 true), slow) ∷ []
+
+pub record StartExamples : Type 0 where
+  -- what the statements suppose
+  pub of-stopped : Stopped fast framed × Stopped slow once
+  pub of-unstopped : Unstopped fast unstopped
+  pub of-broken : Broken fast broken × Broken slow onceBroken
+  pub of-few : (few (at fast (replicate 7 true)) ≡ true) × (few (at fast (replicate 8 true)) ≡ false) × (few (at slow (true ∷ [])) ≡ false)
+  pub interrupted : (allFew interruptions ≡ true) × (length (runs interruptions) ≡ 13)
+  -- the eighth high at 16X ends a break, and the first or the fourth at 1X
+  pub ended : Ends (at fast (replicate 7 true)) fast × Ends [] slow × Ends (at fast (replicate 3 true)) slow
+  -- a start at p+8 and at no other pulse of a character, of one with a low stop, of a break; none where p+8 is high
+  pub sixteen : starting fast framed ≡ replicate 8 false ++ true ∷ replicate 144 false
+  pub low-stop : starting fast unstopped ≡ replicate 8 false ++ true ∷ replicate 144 false
+  pub in-break : starting fast (broken ++ at fast (replicate 8 true)) ≡ replicate 8 false ++ true ∷ replicate 152 false
+  pub too-short : starting fast short ≡ replicate 9 false
+  pub too-early : starting fast (take 7 broken) ≡ replicate 8 false
+  -- at 1X at p
+  pub one : starting slow once ≡ true ∷ replicate 9 false
+  pub next : starting slow (once ++ at slow (false ∷ [])) ≡ true ∷ replicate 9 false ++ true ∷ []
+  -- after a low stop the eighth low is a new p, and it is looked at again eight pulses later, or is a start at once at 1X
+  pub again : starting fast (unstopped ++ at fast (replicate 16 false)) ≡ replicate 8 false ++ true ∷ replicate 144 false ++ replicate 15 false ++ true ∷ []
+  pub again-high : starting fast (unstopped ++ at fast (replicate 15 false ++ true ∷ [])) ≡ replicate 8 false ++ true ∷ replicate 160 false
+  pub again-one : starting fast (unstopped ++ at slow (replicate 8 false)) ≡ replicate 8 false ++ true ∷ replicate 151 false ++ true ∷ []
+  -- one just enabled: not a low before a high
+  pub enabled-low : startsFrom (hunting false) (lines (at slow (false ∷ false ∷ true ∷ false ∷ []))) ≡ replicate 3 false ++ true ∷ []
+  pub disabled : startsFrom (hunting false) (pulse true fast ∷ lines (at fast (replicate 8 false)) ++ disable ∷ enable ∷ pulse false fast ∷ []) ≡ replicate 12 false
+  -- a 1X break and then 16X: one high does not end it, with no low between; lows enough for another character are the same break
+  pub slow-waits : after slow (onceBroken ++ at fast (true ∷ replicate 153 false)) ≡ breakCharacter ∷ []
+  -- three highs at 16X and then one at 1X end it, and what follows is heard
+  pub mixed : after fast (broken ++ at fast (replicate 3 true) ++ at slow (true ∷ false ∷ []) ++ once) ≡ breakCharacter ∷ clean 254 ∷ []
+  -- any number of interrupted runs, and break change at none of them
+  pub runs-wait : after fast (broken ++ runs interruptions ++ at fast (replicate 7 true)) ≡ breakCharacter ∷ []
+  pub runs-unchanged : flags fast (broken ++ runs interruptions) ≡ replicate 152 false ++ true ∷ replicate 13 false
+  pub runs-slow : flags slow (onceBroken ++ runs interruptions ++ at fast (replicate 8 true)) ≡ replicate 9 false ++ true ∷ replicate 20 false ++ true ∷ []
+  -- nor at a false start, a 1X character, or a low while it hunts
+  pub none-changes : (flags fast short ≡ replicate 9 false) × (flags slow once ≡ replicate 10 false)
+  pub hunting-unchanged : flagsFrom (hunting false) (lines broken) ≡ replicate 152 false
+
+pub start-examples : StartExamples
+unfolding computing arrivals
+start-examples =
+    record {
+      of-stopped = (stopped16 (sampling-examples .of-frame) refl, stopped1 (record { one = refl; width = omega arith; end = refl }) refl);
+      of-unstopped = record { made = sampling-examples .of-unstopped; low = refl; some = refl };
+      of-broken = (broken16 (sampling-examples .of-break) refl, broken1 (record { one = refl; width = omega arith; end = refl }) refl);
+      of-few = (refl, refl, refl);
+      interrupted = (refl, refl);
+      ended = (λ e. refl, λ e. absurd (true≢false (sym e)), λ e. absurd (true≢false (sym e)));
+      sixteen = refl;
+      low-stop = refl;
+      in-break = refl;
+      too-short = refl;
+      too-early = refl;
+      one = refl;
+      next = refl;
+      again = refl;
+      again-high = refl;
+      again-one = refl;
+      enabled-low = refl;
+      disabled = refl;
+      slow-waits = refl;
+      mixed = refl;
+      runs-wait = refl;
+      runs-unchanged = refl;
+      runs-slow = refl;
+      none-changes = (refl, refl);
+      hunting-unchanged = refl;
     }
