@@ -4,3 +4,4 @@ pub mod Stopped
 pub mod Characters
 pub mod Told
 pub mod ToldAfter
+pub mod Every
