@@ -1,8 +1,8 @@
 -- Demand 3's ledger leans on the sampling rule alone. Its sampler is the one that has heard all the lines so far, so the starts that an event brings it are those
 -- that `startsFrom` tells of the event's lines, which `Confirms` (crate sampler_laws) says; by them and by what arrives its entries are written. Assumes nothing.
 use Prim.Native.Nat.{ℕ}
-use mathlib.Core.Path.{_≡_, refl, sym, ap, _∙_}
-use mathlib.Core.Bool.{Bool, false}
+use mathlib.Core.Path.{_≡_, refl}
+use mathlib.Core.Bool.{false}
 use mathlib.Core.List.{List, [], _∷_, _++_, append-nil, append-assoc}
 use Rattle.format.proofs.Laws.Pick.{pick-all}
 use Rattle.sampler_state.specs.declared.state.Sampler.{Sampler}

@@ -93,7 +93,8 @@ clears (entry c k WasRead ∷ l) = entry c k WasRead ∷ clears l
 clears (entry c k Overrun ∷ l) = entry c k Overrun ∷ clears l
 clears (entry c k Dropped ∷ l) = entry c k Dropped ∷ clears l
 
--- "A confirmed start while one waits removes the waiting one": the fourth of those held
+-- "A confirmed start while one waits removes the waiting one": the fourth of those held. When a start is confirmed
+-- `Confirms` says (crate sampler_laws), of what a sampler run alone tells.
 abbrev pub starts : Bool → List Entry → List Entry
 starts true l = meets 3 Overrun l
 starts false l = l

@@ -2,12 +2,11 @@
 -- nothing.
 use Prim.Native.Nat.{ℕ, _+_, _*_, _≤_}
 use mathlib.Core.Path.{_≡_, refl, sym, ap, _∙_}
-use mathlib.Core.Bool.{Bool, true, false, _&&_, true≢false}
+use mathlib.Core.Bool.{Bool, true, false, true≢false}
 use mathlib.Core.List.{List, [], _∷_, _++_, append-assoc, append-nil, map}
 use native.Mathlib.Omega.{arith}
-use lib.Dec.{eqb, ltb}
+use lib.Dec.{eqb}
 use lib.ListN.{length, replicate, replicate-append-replicate}
-use borrow.Author.Tests.{lt-ltb}
 use Rattle.format.specs.Pick.{pick}
 use Rattle.format.specs.Digits.{valueOf}
 use Rattle.feed.specs.declared.feed.Setting.{Setting}
@@ -15,7 +14,7 @@ use Rattle.sampler_state.specs.State.{hunting}
 use Rattle.sampler.specs.Lines.Line.{pulse}
 use Rattle.sampler_laws.specs.Sampling.{Found, lines, levelAt, samples, beforeStop, allAt, allSixteen}
 use Rattle.sampler_laws.specs.Sampling.{Sixteen, stopAt, allLow, Flags, BreakChange, flagsFrom}
-use Rattle.sampler_laws.specs.Breaks.{Run, runs, few, allFew, allLowOne}
+use Rattle.sampler_laws.specs.Breaks.{Run, runs, few, allFew}
 use Rattle.sampler_laws.specs.Breaks.Broken.{broken16, broken1}
 use Rattle.sampler_laws.specs.Breaks.Stopped.{stopped16}
 use Rattle.sampler_laws.specs.Confirms.{toldOf, Changes}

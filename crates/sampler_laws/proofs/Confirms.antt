@@ -1,10 +1,9 @@
 -- When a start is confirmed, and when break change is set. What is told of a line is one field or the other of the sampler's answer: the same laws (Laws/Told,
 -- Laws/ToldAfter) give both, and so the older statement of break change too. Assumes nothing.
-use Prim.Native.Nat.{ℕ, _+_, _-_, _*_, _≤_, _<_}
-use mathlib.Core.Path.{_≡_, refl, sym, ap, _∙_}
+use Prim.Native.Nat.{_+_, _≤_}
+use mathlib.Core.Path.{_≡_, refl, sym}
 use mathlib.Core.Bool.{Bool, true, false, true≢false}
-use mathlib.Core.List.{List, [], _∷_, _++_, append-assoc, append-nil}
-use native.Mathlib.Omega.{arith}
+use mathlib.Core.List.{List, [], _∷_, _++_, append-nil}
 use native.Mathlib.Nat.{suc-add}
 use lib.ListN.{length, replicate}
 use Rattle.format.specs.Pick.{pick}
@@ -16,7 +15,7 @@ use Rattle.sampler_hunting.specs.Hunting.{still, hunted}
 use Rattle.sampler.specs.Sampler.{sampleOf}
 use Rattle.sampler.specs.Lines.{Line, hears}
 use Rattle.sampler.specs.Lines.Line.{pulse, enable, disable}
-use Rattle.sampler_laws.specs.Sampling.{Found, lines, levelAt, beforeStop, allAt, sampleAt, stopAt, allLow, toldFrom, flagsFrom}
+use Rattle.sampler_laws.specs.Sampling.{Found, lines, levelAt, beforeStop, allAt, sampleAt, toldFrom, flagsFrom}
 use Rattle.sampler_laws.specs.Breaks.{allLowOne, Broken, Stopped, Unstopped, Run, runs, few, allFew, Ends}
 use Rattle.sampler_laws.specs.Breaks.Broken.{broken16, broken1}
 use Rattle.sampler_laws.specs.Breaks.Stopped.{stopped16, stopped1}

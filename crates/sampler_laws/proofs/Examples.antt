@@ -16,7 +16,7 @@ use Rattle.sampler_state.specs.State.{hunting}
 use Rattle.sampler.specs.Lines.{Line, arrivals}
 use Rattle.sampler.specs.Lines.Line.{pulse, enable, disable}
 use Rattle.sampler_laws.specs.Sampling.{Found, lines, levelAt, samples, characterAt, allAt, allSixteen, Sixteen, sampleAt, stopAt, allLow, flagsFrom}
-use Rattle.sampler_laws.specs.Breaks.{One, Broken, Stopped, Unstopped, Run, runs, few, allFew, Ends}
+use Rattle.sampler_laws.specs.Breaks.{Broken, Stopped, Unstopped, Run, runs, few, allFew, Ends}
 use Rattle.sampler_laws.specs.Breaks.Broken.{broken16, broken1}
 use Rattle.sampler_laws.specs.Breaks.Stopped.{stopped16, stopped1}
 use Rattle.sampler_laws.specs.Confirms.{startsFrom}

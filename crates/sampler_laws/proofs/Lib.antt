@@ -5,6 +5,7 @@ pub mod Breaks
 pub mod Enabling
 pub mod Confirms
 pub mod BreakChange
+pub mod Only
 pub mod Examples
 pub mod Wrong
 pub mod WrongStarts

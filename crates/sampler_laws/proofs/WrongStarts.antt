@@ -1,6 +1,6 @@
 -- What is said of confirmed starts, of break change and of how long a break lasts shuts out wrong samplers, each the right one but for one fault: each law is
 -- taken at a few pulses, where what the wrong one gives and what the law says are computed, and differ. Assumes nothing.
-use Prim.Native.Nat.{ℕ, _+_, _-_, _≤_, _<_}
+use Prim.Native.Nat.{ℕ, _-_, _≤_}
 use mathlib.Core.Path.{_≡_, refl, sym, ap}
 use mathlib.Core.Bool.{Bool, true, false, not, _&&_, _||_, true≢false, false≢true}
 use mathlib.Core.List.{List, [], _∷_, _++_}
@@ -18,7 +18,7 @@ use Rattle.sampler_hunting.specs.Hunting.{still}
 use Rattle.sampler.specs.Lines.{Line, hears, listOf}
 use Rattle.sampler.specs.Lines.Line.{pulse, enable, disable}
 use Rattle.sampler_laws.specs.Sampling.{Found, Assembly, Flags, Sixteen}
-use Rattle.sampler_laws.specs.Breaks.{One, Run, Breaks}
+use Rattle.sampler_laws.specs.Breaks.{One, Breaks}
 use Rattle.sampler_laws.specs.Breaks.Broken.{broken16, broken1}
 use Rattle.sampler_laws.specs.Breaks.Stopped.{stopped1}
 use Rattle.sampler_laws.specs.Confirms.{Confirms, Changes}

@@ -2,7 +2,7 @@
 -- waits removes the waiting one and sets overrun." is demand 3's rule of what is lost. One statement for both, over what
 -- is told of each line: at the pulse that confirms a start, at the stop's sample of a break and at the high that ends
 -- it, and of no other line anything. Assumes nothing.
-use Prim.Native.Nat.{ℕ, _+_, _-_, _*_, _≤_, _<_}
+use Prim.Native.Nat.{_+_, _-_, _*_, _≤_, _<_}
 use mathlib.Core.Path.{_≡_}
 use mathlib.Core.Bool.{Bool, true, false}
 use mathlib.Core.List.{List, [], _∷_, _++_}

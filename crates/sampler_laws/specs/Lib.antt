@@ -2,3 +2,4 @@
 pub mod Sampling
 pub mod Breaks
 pub mod Confirms
+pub mod Only

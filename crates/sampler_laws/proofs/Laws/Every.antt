@@ -1,13 +1,13 @@
 -- Every list of pulses is of one of the shapes that the statements speak of: a low at p is too short a time ago, or a false start, or of a character that is not
 -- finished, or of one that is, and then of what follows its stop; the rest is a shorter list. Assumes nothing.
-use Prim.Native.Nat.{ℕ, zero, suc, _+_, _-_, _*_, _≤_, _<_}
+use Prim.Native.Nat.{ℕ, zero, suc, _+_, _*_, _≤_, _<_}
 use mathlib.Core.Path.{_≡_, refl, sym, ap, subst, _∙_}
-use mathlib.Core.Bool.{Bool, true, false, _&&_, and-eq-true-iff, true≢false}
+use mathlib.Core.Bool.{Bool, true, false, and-eq-true-iff, true≢false}
 use mathlib.Core.List.{List, [], _∷_, _++_, append-assoc, append-nil}
 use native.Mathlib.Omega.{arith}
 use native.Mathlib.Decide.{decLt}
-use lib.Dec.{eqb, leb}
-use lib.ListN.{length, take, drop, length-append, length-drop, take-append-drop}
+use lib.Dec.{leb}
+use lib.ListN.{length, take, drop, length-append, take-append-drop}
 use lib.Seq.{length-take-le}
 use borrow.Author.Tests.{leb-true, lt-ltb}
 use Rattle.feed.specs.declared.feed.Setting.{Setting}
@@ -15,19 +15,15 @@ use Rattle.sampler_laws.specs.Sampling.{Found, levelAt, beforeStop, allA
 use Rattle.sampler_laws.specs.Breaks.{One, allLowOne, Broken, Stopped, Unstopped, Run, runs, few, allFew, Ends}
 use Rattle.sampler_laws.specs.Breaks.Broken.{broken16, broken1}
 use Rattle.sampler_laws.specs.Breaks.Stopped.{stopped16, stopped1}
+use Rattle.sampler_laws.specs.Only.{narrow}
 use Rattle.sampler_laws.proofs.Laws.ToldAfter.{few-are}
-
--- widths that MR1 can choose
-abbrev pub narrow : Found → Bool
-narrow [] = true
-narrow ((b, f) ∷ ls) = leb (f .format .width .0) 8 && narrow ls
 
 -- ---- the shapes ----
 
 pub data Heard : Found → Type 0 where
   nothing : Heard []
   high : (f : Setting) (rest : Found) → Heard rest → Heard ((true, f) ∷ rest)
-  early : (f : Setting) (ls : Found) → f .sixteen ≡ true → length ls ≤ 7 → Heard ((false, f) ∷ ls)
+  early : (f : Setting) (ls : Found) → f .sixteen ≡ true → f .format .width .0 ≤ 8 → length ls ≤ 7 → Heard ((false, f) ∷ ls)
   none : (f : Setting) (ls rest : Found) → f .sixteen ≡ true → levelAt ls 7 ≡ true → length ls ≡ 8 → Heard rest → Heard ((false, f) ∷ (ls ++ rest))
   sixteen : (f : Setting) (ls : Found) → f .sixteen ≡ true → f .format .width .0 ≤ 8 → levelAt ls 7 ≡ false → 8 ≤ length ls
       → length ls < 24 + 16 * beforeStop (f .format) → Heard ((false, f) ∷ ls)
@@ -45,7 +41,7 @@ pub data Heard : Found → Type 0 where
 
 -- ---- the lows after a low stop ----
 
-data Follows (k : ℕ) (xs : Found) : Type 0 where
+pub data Follows (k : ℕ) (xs : Found) : Type 0 where
   all : (lows : Found) → allAt false lows ≡ true → length lows ≤ k → lows ≡ xs → Follows k xs
   then-low : (lows : Found) (g : Setting) (rest : Found) → allAt false lows ≡ true → length lows ≡ k → lows ++ (false, g) ∷ rest ≡ xs → Follows k xs
   then-high : (lows : Found) (g : Setting) (rest : Found) → allAt false lows ≡ true → length lows ≤ k → lows ++ (true, g) ∷ rest ≡ xs → Follows k xs
@@ -55,7 +51,7 @@ one-more k g xs (all lows a l e) = all ((false, g) ∷ lows) a (omega arith) (ap
 one-more k g xs (then-low lows h rest a l e) = then-low ((false, g) ∷ lows) h rest a (omega arith) (ap (λ (r : Found). (false, g) ∷ r) e)
 one-more k g xs (then-high lows h rest a l e) = then-high ((false, g) ∷ lows) h rest a (omega arith) (ap (λ (r : Found). (false, g) ∷ r) e)
 
-follows : (k : ℕ) (xs : Found) → Follows k xs
+pub follows : (k : ℕ) (xs : Found) → Follows k xs
 follows k [] = all [] refl (omega arith) refl
 follows k ((true, g) ∷ xs) = then-high [] g xs refl (omega arith) refl
 follows zero ((false, g) ∷ xs) = then-low [] g xs refl refl refl
@@ -111,7 +107,7 @@ pub record Tail (n : ℕ) (xs : Found) : Type 0 where
   pub long : length xs ≤ n
   pub narrows : narrow xs ≡ true
 
-narrow-append : (a b : Found) → narrow (a ++ b) ≡ true → narrow b ≡ true
+pub narrow-append : (a b : Found) → narrow (a ++ b) ≡ true → narrow b ≡ true
 narrow-append [] b e = e
 narrow-append ((x, f) ∷ a) b e = narrow-append a b (and-eq-true-iff (leb (f .format .width .0) 8) _ .0 e .1)
 
@@ -183,7 +179,7 @@ low-sixteen : (n : ℕ) (f : Setting) (xs : Found) → f .sixteen ≡ true → f
 low-sixteen n f xs x w t shorter = go (decLt (length xs) 8) (levelAt xs 7) refl (decLt (length xs) (24 + 16 * beforeStop (f .format)))
   where
     go : Dec (length xs < 8) → (b : Bool) → levelAt xs 7 ≡ b → Dec (length xs < 24 + 16 * beforeStop (f .format)) → Heard ((false, f) ∷ xs)
-    go (yes p) b e d = early f xs x (omega arith)
+    go (yes p) b e d = early f xs x w (omega arith)
     go (no p) true e d =
         parted n 8 f xs t
         (λ u. none f (take 8 xs) (drop 8 xs) x (level-taken 8 xs 7 (omega arith) ∙ e) (length-take-le 8 xs (omega arith)) (shorter (drop 8 xs) u))

@@ -2,7 +2,7 @@
 -- Laws/Characters, and what follows its stop by the sampler that the stop leaves, as in Laws/Stopped. Assumes nothing.
 use Prim.Native.Nat.{ℕ, zero, suc, _+_, _-_, _*_, _^_, _≤_, _<_}
 use mathlib.Core.Path.{_≡_, refl, sym, ap, _∙_}
-use mathlib.Core.Bool.{Bool, true, false, _&&_, and-eq-true-iff, true≢false}
+use mathlib.Core.Bool.{Bool, true, false}
 use mathlib.Core.List.{List, [], _∷_, _++_, append-assoc, append-nil}
 use native.Mathlib.Omega.{arith}
 use native.Mathlib.Nat.{zero-mul, add-zero, zero-add, mul-suc}
@@ -14,17 +14,17 @@ use Rattle.format.specs.Digits.{valueOf}
 use Rattle.feed.specs.declared.feed.Setting.{Setting}
 use Rattle.sampler_state.specs.declared.state.Sampler.{Sampler}
 use Rattle.sampler_state.specs.Assembly.{samplesOf, withSample}
-use Rattle.sampler_state.specs.State.{hunting, starting, assembling, afterLowStop, inBreak, gapOf}
+use Rattle.sampler_state.specs.State.{hunting, starting, assembling, gapOf}
 use Rattle.sampler_state.proofs.Laws.Assembly.{with-sample-small}
 use Rattle.sampler_hunting.specs.declared.hunting.Sampled.{Sampled}
-use Rattle.sampler_hunting.specs.Hunting.{still, confirmed, ended, hunted, lookedAgain, followed, waited}
+use Rattle.sampler_hunting.specs.Hunting.{still, confirmed, ended, hunted, lookedAgain}
 use Rattle.sampler.specs.Sampler.{broke, arrived, finished, sampled, assembled, sampleOf}
 use Rattle.sampler.specs.Lines.{Line, hears}
 use Rattle.sampler.specs.Lines.Line.{pulse}
 use Rattle.sampler.proofs.Laws.Heard.{put-in}
-use Rattle.sampler_laws.specs.Sampling.{Found, lines, levelAt, samples, beforeStop, allAt, allSixteen}
+use Rattle.sampler_laws.specs.Sampling.{Found, lines, levelAt, samples, beforeStop}
 use Rattle.sampler_laws.specs.Sampling.{Sixteen, sampleAt, allLow, toldFrom}
-use Rattle.sampler_laws.specs.Breaks.{One, allLowOne, Run, runs, few, allFew, Ends}
+use Rattle.sampler_laws.specs.Breaks.{One, allLowOne}
 use Rattle.sampler_laws.specs.Confirms.{toldOf}
 use Rattle.sampler_laws.proofs.Laws.Samples.{samples-before-stop, all-low, afterSamples}
 use Rattle.sampler_laws.proofs.Laws.Characters.{level-dropped, low-at-sixteen, low-at-one}
