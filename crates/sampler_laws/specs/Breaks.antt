@@ -11,8 +11,8 @@ use Rattle.format.specs.Digits.{valueOf}
 use Rattle.character.specs.Character.{breakCharacter}
 use Rattle.feed.specs.declared.feed.Setting.{Setting}
 use Rattle.sampler.specs.Lines.Line.{pulse}
-use Rattle.sampler_laws.specs.Sampling.{Found, lines, levelAt, samples, beforeStop, characterAt, allAt, allSixteen}
-use Rattle.sampler_laws.specs.Sampling.{Assembly, Sixteen, sampleAt, stopAt, allLow}
+use Rattle.sampler_laws.specs.Sampling.{Found, lines, levelAt, samples, beforeStop, characterAt, allAt}
+use Rattle.sampler_laws.specs.Sampling.{Assembly, allSixteen, Sixteen, sampleAt, stopAt, allLow}
 
 -- "At 1X each pulse is a sample": the pulses after a low at p that a 1X character is made of
 pub record One (f : Setting) (ls : Found) : Type 0 where

@@ -1,7 +1,7 @@
--- When a start is confirmed and when break change is set, by the pulses that are looked at: "A confirmed start while one
--- waits removes the waiting one and sets overrun." is demand 3's rule of what is lost. One statement for both, over what
--- is told of each line: at the pulse that confirms a start, at the stop's sample of a break and at the high that ends
--- it, and of no other line anything. Assumes nothing.
+-- When a start is confirmed and when break change is set, by the pulses that are looked at. "A confirmed start while
+-- one waits removes the waiting one and sets overrun." is the rule by which demand 3's ledger loses a character. One
+-- statement for both, over what is told of each line: at the pulse that confirms a start, at the stop's sample of a
+-- break and at the high that ends it, and of no other line anything. Assumes nothing.
 use Prim.Native.Nat.{_+_, _-_, _*_, _≤_, _<_}
 use mathlib.Core.Path.{_≡_}
 use mathlib.Core.Bool.{Bool, true, false}
@@ -16,8 +16,9 @@ use Rattle.sampler.specs.Lines.Line.{pulse, enable, disable}
 use Rattle.sampler_laws.specs.Sampling.{Found, lines, levelAt, beforeStop, allAt, Flags, toldFrom}
 use Rattle.sampler_laws.specs.Breaks.{Broken, Stopped, Unstopped, Run, runs, few, allFew, Ends}
 
--- Of a whole character, from the low at p to its first stop sample. At 16X the start is confirmed at p+8, the stop's
--- sample comes 16 pulses after the last of those before it; at 1X the start is "confirmed at once".
+-- Of a whole character, from the low at p to its first stop sample. "at p+8 it must still be low, .. Then one sample
+-- each 16 pulses": `start` is told at p+8, `stop` at the stop's sample. "At 1X each pulse is a sample", and a start is
+-- "confirmed at once".
 abbrev pub toldOf : Bool → Bool → Setting → List Bool
 toldOf start stop f =
     pick (f .sixteen)
