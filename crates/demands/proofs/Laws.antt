@@ -14,6 +14,7 @@ pub mod Counting
 pub mod Loads
 pub mod Stops
 pub mod Frames
+pub mod Formats
 pub mod Senders
 pub mod Feeds
 pub mod Lines

@@ -37,11 +37,12 @@ use Rattle.demands.specs.Told.{programmed}
 use Rattle.demands.specs.Clocks.{frontThen, frontAfter}
 use Rattle.demands.specs.Delivery.{commands, linesFrom, ledger}
 use Rattle.demands.specs.Sending.{senderAfter, standing, Starts, startedFrame, keepsSending, pulsesFrom, sentFrom}
-use Rattle.demands.specs.ReadBack.{Listens, undisturbed, carried, formatAfter, ReadBack, ReadsBack}
+use Rattle.demands.specs.ReadBack.{Listens, undisturbed, carried, formatAfter, SameFormat, ReadBack, ReadsBack}
 use Rattle.demands.proofs.Laws.Run.{runAt, run-append, run-sound, run-front, receiverAt, feedsFrom, run-receiver}
 use Rattle.demands.proofs.Laws.Looks.{change-bit, ready-bit}
 use Rattle.demands.proofs.Laws.Feeds.{handsTo, hands}
 use Rattle.demands.proofs.Laws.Lines.{lines-from}
+use Rattle.demands.proofs.Laws.Formats.{same-frame}
 use Rattle.demands.proofs.Laws.Buffer.{overrun-shown, held-queue}
 use Rattle.demands.proofs.Delivery.{run-sampler}
 use Rattle.demands.proofs.Sends.{sends}
@@ -163,7 +164,7 @@ frame-read levels ch es gs code x h k e =
 
 sent-read : (there here : ℕ) (sender receiver : Channel) (es fs before gs : List Event) (e : Event) → Starts there sender es e
     → eachOf (keepsSending sender) fs ≡ true → pulsesFrom there sender es (e ∷ fs) ≡ length (startedFrame there sender es e)
-    → standing there sender es e .sixteen ≡ true → formatAfter sender es ≡ formatAfter receiver before
+    → standing there sender es e .sixteen ≡ true → SameFormat (formatAfter sender es) (formatAfter receiver before)
     → Listens (chipOf stepOf) here receiver before → eachOf (undisturbed receiver) gs ≡ true
     → linesFrom receiver here before gs ≡ carried (at16 (formatAfter receiver before)) (sentFrom (chipOf stepOf) there sender es (e ∷ fs))
     → ReadBack (chipOf stepOf) here receiver before gs (senderAfter there sender es .holding)
@@ -172,7 +173,8 @@ sent-read there here sender receiver es fs before gs e h k all sixteen format l 
     let x : ℕ = senderAfter there sender es .holding in
     let whole : sentFrom (chipOf stepOf) there sender es (e ∷ fs) ≡ startedFrame there sender es e =
     sends .line there sender es fs e h k (omega arith) ∙ rw all (take-length (startedFrame there sender es e)) in
-    let same : startedFrame there sender es e ≡ frame true (formatAfter receiver before) code x = rw (sixteen, format) in
+    let same : startedFrame there sender es e ≡ frame true (formatAfter receiver before) code x =
+    rw sixteen (same-frame true (formatAfter sender es) (formatAfter receiver before) code x format) in
     frame-read here receiver before gs code x l u (lines ∙ ap (carried (at16 (formatAfter receiver before))) (whole ∙ same))
 
 pub reads-back : ReadsBack (chipOf stepOf)

@@ -48,6 +48,14 @@ carried f ls = map (λ (level : Bool). pulse level f) ls
 abbrev pub formatAfter : Channel → List Event → Format
 formatAfter ch es = formatOf (programmed ch es .mr1)
 
+-- "with the same format": "4-3 parity 00 with, 01 forced, 10 none; 2 odd, or forced high; 1-0 data bits less 5". With
+-- none, bit 2 chooses nothing, and may differ.
+pub record SameFormat (f g : Format) : Type 0 where
+  pub bits : f .width ≡ g .width
+  pub parity : f .parity ≡ g .parity
+  pub odd : f .parity ≡ 0 → f .odd ≡ g .odd
+  pub high : f .parity ≡ 1 → f .odd ≡ g .odd
+
 -- Exactly that character arrives, cut to its data bits and without a mark, and nothing else; it is what is held;
 -- overrun and break change are as they were; the receiver is idle again.
 pub record ReadBack (c : Chip) (levels : ℕ) (ch : Channel) (es gs : List Event) (x : ℕ) : Type 0 where
@@ -64,14 +72,14 @@ pub record ReadsBack (c : Chip) : Type 0 where
       → eachOf (undisturbed ch) gs ≡ true
       → linesFrom ch levels es gs ≡ carried (at16 (formatAfter ch es)) (frame true (formatAfter ch es) code x)
       → ReadBack c levels ch es gs x
-  -- What a transmitter sends from a character's start, with 16X pulses in the receiver's format, and what the
+  -- What a transmitter sends from a character's start, with 16X pulses and the same format, and what the
   -- receiver's pulses find. They may be of one chip or of two, which were reset with other levels on their pins and had
   -- other events.
   pub sent : (there here : ℕ) (sender receiver : Channel) (es fs before gs : List Event) (e : Event)
       → Starts there sender es e
       → eachOf (keepsSending sender) fs ≡ true
       → pulsesFrom there sender es (e ∷ fs) ≡ length (startedFrame there sender es e)
-      → standing there sender es e .sixteen ≡ true → formatAfter sender es ≡ formatAfter receiver before
+      → standing there sender es e .sixteen ≡ true → SameFormat (formatAfter sender es) (formatAfter receiver before)
       → Listens c here receiver before → eachOf (undisturbed receiver) gs ≡ true
       → linesFrom receiver here before gs
       ≡ carried (at16 (formatAfter receiver before)) (sentFrom c there sender es (e ∷ fs))

@@ -3,3 +3,4 @@ pub mod Examples
 pub mod MoreExamples
 pub mod Modes
 pub mod Wired
+pub mod EveryFormat
