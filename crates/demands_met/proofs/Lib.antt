@@ -4,3 +4,4 @@ pub mod MoreExamples
 pub mod Modes
 pub mod Wired
 pub mod EveryFormat
+pub mod EverySender
