@@ -1,27 +1,27 @@
 -- What ReadsBack supposes of a receiver is met for every MR1 that is modelled, any levels and either channel, on its pin's clock: what its pulses
 -- find follows by induction on the levels, from what the events tell. So every byte's frame is read back in every format. Assumes nothing.
 use Prim.Native.Nat.{ℕ, suc, _<_, _/_, _%_, _+_, _^_}
-use mathlib.Core.Path.{_≡_, refl, sym, _∙_, ap}
-use mathlib.Core.Bool.{Bool, true, false, _||_, and-false}
+use mathlib.Core.Path.{_≡_, refl, _∙_, ap}
+use mathlib.Core.Bool.{Bool, true, false, _||_, true≢false, and-false}
 use mathlib.Core.List.{List, [], _∷_, _++_}
 use native.Mathlib.Omega.{arith}
 use lib.Dec.{eqb}
 use lib.ListN.{length, length-append}
 use borrow.Author.Tests.{ne-eqb}
+use Rattle.format.specs.Digits.{bit}
 use Rattle.format.specs.Pick.{pick}
 use Rattle.format.specs.Format.{mr1NotModelled, formatOf}
 use Rattle.format.specs.declared.format.Format.{Format}
 use Rattle.frame.specs.Levels.{frame}
 use Rattle.character.specs.declared.character.Character.{Character}
 use Rattle.character.specs.Character.{clean}
-use Rattle.sampler.specs.Lines.{Line, at16, hears}
-use Rattle.sampler.specs.Lines.Line.{pulse, enable}
+use Rattle.sampler.specs.Lines.{at16, hears}
+use Rattle.sampler.specs.Lines.Line.{pulse}
 use Rattle.sampler.specs.Sampler.{sampleOf}
 use Rattle.sampler_hunting.specs.Hunting.{hunted}
 use Rattle.receiver.specs.Delivery.{Ledger, Fate, fatedBy}
 use Rattle.receiver.specs.Delivery.Fate.{WasRead, Held}
 use Rattle.receiver.specs.ReadBack.{Idle}
-use Rattle.clocks.specs.Channel.{isSixteen}
 use Rattle.clocks.specs.Pulses.Side.{receives}
 use Rattle.bytes.specs.Bytes.{hasBit}
 use Rattle.events.specs.declared.events.Event.{Event}
@@ -29,8 +29,6 @@ use Rattle.events.specs.declared.events.Event.the-variants.{Write, Pins}
 use Rattle.demands.specs.Chip.{Channel, ofChannel, registerOf, andThen, over, statusBit, eachOf}
 use Rattle.demands.specs.Chip.Channel.{A, B}
 use Rattle.demands.specs.Told.{levelsThen, levelsAfter, Programmed, unprogrammed, programmedThen, programmed}
-use Rattle.demands.specs.Clocks.{pulsedAfter}
-use Rattle.demands.specs.Pulses.{Pulses}
 use Rattle.demands.specs.Delivery.{linesAt, linesFrom, fateOf, ledgerFrom, ledger, readFrom, held}
 use Rattle.demands.specs.ReadBack.{Listens, undisturbed, carried, formatAfter, ReadBack}
 use Rattle.demands.proofs.Laws.Told.{over-then}
@@ -214,6 +212,7 @@ undisturbed-by : (ch : Channel) (ls : List Bool) → eachOf (undisturbed ch) (he
 undisturbed-by ch [] = refl
 undisturbed-by ch (level ∷ ls) = undisturbed-by ch ls
 
+-- with any levels on the pins at the chip reset
 pub record Met (levels : ℕ) (ch : Channel) (mr1 : ℕ) (ls : List Bool) : Type 0 where
   pub listens : Listens chip levels ch (listening ch mr1)
   pub format : formatAfter ch (listening ch mr1) ≡ formatOf mr1
@@ -253,3 +252,13 @@ frame-read levels ch mr1 code x m =
     reads-back .frame levels ch (listening ch mr1) (heard ch ls) code x (s .listens) (s .undisturbed)
     (s .found ∙ rw (s .format)) in
     record { back = back; held = back .held ∙ ap (λ (f : Format). clean (x % 2 ^ f .width .0) ∷ []) (s .format) }
+
+-- ---- shut out ----
+
+-- "MR1 bit 7 set or bits 4-3 = 11": a test that refuses 01, forced parity, too, so that no receiver would take it
+no-forcedRefused : ((mr1 : ℕ) → Modelled mr1 → (eqb (mr1 / 128 % 2) 1 || eqb (mr1 / 8 % 2) 1) ≡ false) → ⊥
+no-forcedRefused h = true≢false (h 8 (record { seven = refl; parity = omega arith }))
+
+-- "1-0 data bits less 5": 6 data bits taken for 7
+no-sixAsSeven : ((mr1 x : ℕ) → Modelled mr1 → x % 2 ^ (mr1 % 4 + 5 + bit (eqb (mr1 % 4) 1)) ≡ x % 2 ^ (mr1 % 4 + 5)) → ⊥
+no-sixAsSeven h = omega (arith, h 1 64 (record { seven = refl; parity = omega arith }))

@@ -13,7 +13,6 @@ use Rattle.format.specs.declared.format.Format.{Format}
 use Rattle.frame.specs.Levels.{frame}
 use Rattle.frame.proofs.Laws.Levels.{frame-length, length-sixteen}
 use Rattle.character.specs.Character.{clean}
-use Rattle.sampler.specs.Lines.{at16}
 use Rattle.clocks.specs.Pulses.Side.{transmits}
 use Rattle.transmitter.specs.Frames.{Startable}
 use Rattle.bytes.specs.Bytes.{hasBit}
@@ -24,9 +23,10 @@ use Rattle.demands.specs.Chip.Channel.{A, B}
 use Rattle.demands.specs.Told.{levelsAfter, Programmed, programmedThen, programmed}
 use Rattle.demands.specs.Clocks.{pulsedAfter}
 use Rattle.demands.specs.Pulses.{edgeBy}
-use Rattle.demands.specs.Delivery.{linesFrom, held}
+use Rattle.demands.specs.Delivery.{held}
 use Rattle.demands.specs.Sending.{standing, inputsAt, inputsFrom, senderAfter, Starts, startedFrame, keepsSending, pulsesFrom, sentFrom}
-use Rattle.demands.specs.ReadBack.{carried, formatAfter, SameFormat, ReadBack}
+use Rattle.demands.specs.ReadBack.{formatAfter, SameFormat, ReadBack}
+use Rattle.demands.proofs.Laws.Formats.{none-same}
 use Rattle.demands.proofs.Pulses.{pulses}
 use Rattle.demands.proofs.ReadBack.{reads-back}
 use Rattle.demands.proofs.Laws.Looks.{chip}
@@ -187,3 +187,12 @@ sent-read here sender receiver mr1 mr2 other x m n o same =
           back .held ∙ ap (λ (f : Format). clean (x % 2 ^ f .width .0) ∷ []) (r .format)
           ∙ ap (λ (w : Bits). clean (x % 2 ^ w .0) ∷ []) (sym (same .bits));
     }
+
+-- "10 none; 2 odd, or forced high": MR1 23 sends to MR1 19, and 19 to 23
+pub none-read : (mr2 x : ℕ) → Modelled2 mr2 → SentRead 255 A B 23 mr2 19 x × SentRead 255 A B 19 mr2 23 x
+none-read mr2 x n =
+    let odd : Modelled 23 = record { seven = refl; parity = omega arith } in
+    let even : Modelled 19 = record { seven = refl; parity = omega arith } in (
+      sent-read 255 A B 23 mr2 19 x odd n even (none-same 23 19 refl refl refl),
+      sent-read 255 A B 19 mr2 23 x even n odd (none-same 19 23 refl refl refl),
+    )

@@ -2,12 +2,15 @@
 -- should send it. Assumes nothing.
 use Prim.Native.Nat.{ℕ, suc, zero}
 use mathlib.Core.Path.{_≡_, refl, sym, _∙_, ap}
-use mathlib.Core.Bool.{true}
+use mathlib.Core.Bool.{Bool, true, not, _&&_}
 use mathlib.Core.List.{List, [], _∷_, _++_}
 use native.Mathlib.Omega.{arith}
 use lib.ListN.{length, getD, replicate}
 use Rattle.format.specs.Digits.{cutOf}
+use Rattle.format.specs.declared.format.Format.{Format}
+use Rattle.format.specs.Pick.{pick}
 use Rattle.format.specs.Format.{formatOf}
+use Rattle.format.specs.Parity.{hasParityOf}
 use Rattle.frame.specs.Levels.{frame}
 use Rattle.sampler.specs.Lines.{at16, arrivals}
 use Rattle.character.specs.declared.character.Character.{Character}
@@ -19,10 +22,10 @@ use Rattle.demands.specs.Chip.{eachOf}
 use Rattle.demands.specs.Chip.Channel.{A}
 use Rattle.demands.specs.Delivery.{linesAt, linesFrom, fateOf, ledgerFrom, ledger, heldFor, held}
 use Rattle.demands.specs.Sending.{inputsAt, inputsFrom, senderAfter, standing, Starts, startedFrame, keepsSending, pulsesFrom, sentFrom}
-use Rattle.demands.specs.ReadBack.{Listens, undisturbed, carried, formatAfter, ReadBack, ReadsBack}
+use Rattle.demands.specs.ReadBack.{Listens, undisturbed, carried, formatAfter, SameFormat, ReadBack, ReadsBack}
 use Rattle.demands.specs.Cases.{heard}
 use Rattle.demands_shut_out.proofs.Chips.{chipWith, cutsShort, neverSends, falls}
-use Rattle.demands.proofs.Laws.Formats.{same-format}
+use Rattle.demands.proofs.Laws.Formats.{same-format, none-same}
 use Rattle.demands.proofs.Computing.{computing}
 
 -- ---- the events ----
@@ -46,6 +49,11 @@ about = Write 0 16 ∷ Write 0 0 ∷ Write 1 238 ∷ Write 2 4 ∷ Write 3 31 �
 abbrev fallsOn : ℕ → List Event
 fallsOn zero = []
 fallsOn (suc n) = Pins 255 ∷ falls ∷ fallsOn n
+
+-- MR1 bit 2 is taken for a parity bit forced high where none is chosen
+abbrev forcesAlways : Format → ℕ → ℕ → List Bool
+forcesAlways f code x =
+    frame true (pick (not (hasParityOf f) && f .odd) (record { width = f .width; parity = 1; odd = true }) f) code x
 
 -- ---- what they make ----
 
@@ -92,6 +100,13 @@ computed =
     }
 
 -- ---- shut out ----
+
+-- "with the same format": "10 none; 2 odd, or forced high": without parity the frame does not hang on bit 2
+pub no-forcesAlways : ((f g : Format) (code x : ℕ) → SameFormat f g → forcesAlways f code x ≡ forcesAlways g code x) → ⊥
+unfolding computing
+no-forcesAlways h =
+    let z : _≡_ {A = ℕ} 129 113 = ap length (h (formatOf 20) (formatOf 16) 0 31 (none-same 20 16 refl refl refl)) in
+    omega arith
 
 -- nothing is kept
 pub no-keepsNothing : ReadsBack (chipWith keepsNothing) → ⊥
