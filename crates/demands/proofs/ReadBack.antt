@@ -32,7 +32,7 @@ use Rattle.events.specs.declared.events.Event.{Event}
 use Rattle.events.specs.declared.events.Event.the-variants.{ChipReset, Read, Write, Acknowledge, Pins, Tick}
 use Rattle.chip_step.specs.Chip.{stepOf}
 use Rattle.chip_laws.specs.Reset.{resetAt}
-use Rattle.demands.specs.Chip.{Channel, chipOf, registerOf, eachOf}
+use Rattle.demands.specs.Chip.{Chip, Channel, chipOf, registerOf, eachOf}
 use Rattle.demands.specs.Told.{programmed}
 use Rattle.demands.specs.Clocks.{frontThen, frontAfter}
 use Rattle.demands.specs.Delivery.{commands, linesFrom, ledger}
@@ -42,7 +42,7 @@ use Rattle.demands.proofs.Laws.Run.{runAt, run-append, run-sound, run-f
 use Rattle.demands.proofs.Laws.Looks.{change-bit, ready-bit}
 use Rattle.demands.proofs.Laws.Feeds.{handsTo, hands}
 use Rattle.demands.proofs.Laws.Lines.{lines-from}
-use Rattle.demands.proofs.Laws.Formats.{same-frame}
+use Rattle.demands.proofs.Laws.Formats.{same-format, same-frame}
 use Rattle.demands.proofs.Laws.Buffer.{overrun-shown, held-queue}
 use Rattle.demands.proofs.Delivery.{run-sampler}
 use Rattle.demands.proofs.Sends.{sends}
@@ -179,3 +179,14 @@ sent-read there here sender receiver es fs before gs e h k all sixteen format l 
 
 pub reads-back : ReadsBack (chipOf stepOf)
 reads-back = record { frame = frame-read; sent = sent-read }
+
+-- of equal formats, which are the same, any chip that meets the statement reads back what is sent
+pub sent-equal : (c : Chip) → ReadsBack c → (there here : ℕ) (sender receiver : Channel) (es fs before gs : List Event) (e : Event)
+    → Starts there sender es e → eachOf (keepsSending sender) fs ≡ true
+    → pulsesFrom there sender es (e ∷ fs) ≡ length (startedFrame there sender es e)
+    → standing there sender es e .sixteen ≡ true → formatAfter sender es ≡ formatAfter receiver before
+    → Listens c here receiver before → eachOf (undisturbed receiver) gs ≡ true
+    → linesFrom receiver here before gs ≡ carried (at16 (formatAfter receiver before)) (sentFrom c there sender es (e ∷ fs))
+    → ReadBack c here receiver before gs (senderAfter there sender es .holding)
+sent-equal c h there here sender receiver es fs before gs e starts keeps whole sixteen equal =
+    h .sent there here sender receiver es fs before gs e starts keeps whole sixteen (same-format _ _ equal)

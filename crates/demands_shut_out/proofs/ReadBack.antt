@@ -25,7 +25,8 @@ use Rattle.demands.specs.Sending.{inputsAt, inputsFrom, senderAfter, standing, 
 use Rattle.demands.specs.ReadBack.{Listens, undisturbed, carried, formatAfter, SameFormat, ReadBack, ReadsBack}
 use Rattle.demands.specs.Cases.{heard}
 use Rattle.demands_shut_out.proofs.Chips.{chipWith, cutsShort, neverSends, falls}
-use Rattle.demands.proofs.Laws.Formats.{same-format, none-same}
+use Rattle.demands.proofs.ReadBack.{sent-equal}
+use Rattle.demands.proofs.Laws.Formats.{none-same}
 use Rattle.demands.proofs.Computing.{computing}
 
 -- ---- the events ----
@@ -121,8 +122,8 @@ no-keepsNothing h =
 pub no-neverSends : ReadsBack neverSends → ⊥
 no-neverSends h =
     let x : ReadBack neverSends 255 A listening highs (senderAfter 255 A about .holding) =
-    h .sent 255 255 A A about (fallsOn 112) listening highs falls (computed .starts) (computed .keeps) (computed .whole) (computed .sixteen)
-    (same-format _ _ (computed .format)) (computed .listens-neverSends) (computed .quiet-highs)
+    sent-equal neverSends h 255 255 A A about (fallsOn 112) listening highs falls (computed .starts) (computed .keeps) (computed .whole) (computed .sixteen)
+    (computed .format) (computed .listens-neverSends) (computed .quiet-highs)
     (computed .carries-highs ∙ ap (carried (at16 (formatAfter A listening))) (sym (computed .sent-neverSends)))
     in
     let z : _≡_ {A = ℕ} 0 1 =
