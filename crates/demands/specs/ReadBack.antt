@@ -44,7 +44,7 @@ undisturbed ch Tick = true
 abbrev pub carried : Setting → List Bool → List Line
 carried f ls = map (λ (level : Bool). pulse level f) ls
 
--- the receiver's format
+-- the format that MR1 chooses
 abbrev pub formatAfter : Channel → List Event → Format
 formatAfter ch es = formatOf (programmed ch es .mr1)
 
@@ -72,9 +72,9 @@ pub record ReadsBack (c : Chip) : Type 0 where
       → eachOf (undisturbed ch) gs ≡ true
       → linesFrom ch levels es gs ≡ carried (at16 (formatAfter ch es)) (frame true (formatAfter ch es) code x)
       → ReadBack c levels ch es gs x
-  -- What a transmitter sends from a character's start, with 16X pulses and the same format, and what the
-  -- receiver's pulses find. They may be of one chip or of two, which were reset with other levels on their pins and had
-  -- other events.
+  -- What a transmitter sends from a character's start, with 16X pulses and the same format, and what the receiver's
+  -- pulses find. They may be of one chip or of two, which were reset with other levels on their pins and had other
+  -- events.
   pub sent : (there here : ℕ) (sender receiver : Channel) (es fs before gs : List Event) (e : Event)
       → Starts there sender es e
       → eachOf (keepsSending sender) fs ≡ true

@@ -49,8 +49,7 @@ writing ch mr1 mr2 x =
     Write (registerOf ch 0) mr1 ∷ Write (registerOf ch 0) mr2 ∷ Write (registerOf ch 1) 238 ∷ Write (registerOf ch 2) 4
     ∷ Write (registerOf ch 3) x ∷ []
 
--- "transmitter on a falling edge (A IP3, B IP5)", with "CTS (if chosen; IP0 for A, IP1 for B)" low and every other pin high: it falls, and so many
--- times more
+-- "transmitter on a falling edge (A IP3, B IP5)", with IP0 and IP1, CTS "if chosen", low and every other pin high: it falls, and so many times more
 abbrev pub falls : Channel → Event
 falls ch = Pins (ofChannel ch 244 220)
 

@@ -126,8 +126,8 @@ pub record Hears (k : Clock) (es : List Event) : Type 0 where
 pub read-back : (k : Clock) (es : List Event) → Hears k es → ReadBack chip 255 B (before k es) (along k levelsOf85) 85
 read-back k es h =
     subst (λ (x : ℕ). ReadBack chip 255 B (before k es) (along k levelsOf85) x) (h .holding)
-    (sent-equal chip reads-back 255 255 A B (until k es) (rest k) (before k es) (along k levelsOf85) (k .at true) (h .starts) (h .keeps) (h .whole) (h .sixteen)
-    (h .formats) (h .listens) (h .undisturbed) (h .found ∙ ap (carried (at16 (formatAfter B (before k es)))) (sym (h .sent))))
+    (sent-equal chip reads-back 255 255 A B (until k es) (rest k) (before k es) (along k levelsOf85) (k .at true) (h .starts) (h .keeps)
+    (h .whole) (h .sixteen) (h .formats) (h .listens) (h .undisturbed) (h .found ∙ ap (carried (at16 (formatAfter B (before k es)))) (sym (h .sent))))
 
 -- ---- by the front's run ----
 

@@ -122,8 +122,8 @@ no-keepsNothing h =
 pub no-neverSends : ReadsBack neverSends → ⊥
 no-neverSends h =
     let x : ReadBack neverSends 255 A listening highs (senderAfter 255 A about .holding) =
-    sent-equal neverSends h 255 255 A A about (fallsOn 112) listening highs falls (computed .starts) (computed .keeps) (computed .whole) (computed .sixteen)
-    (computed .format) (computed .listens-neverSends) (computed .quiet-highs)
+    sent-equal neverSends h 255 255 A A about (fallsOn 112) listening highs falls (computed .starts) (computed .keeps) (computed .whole)
+    (computed .sixteen) (computed .format) (computed .listens-neverSends) (computed .quiet-highs)
     (computed .carries-highs ∙ ap (carried (at16 (formatAfter A listening))) (sym (computed .sent-neverSends)))
     in
     let z : _≡_ {A = ℕ} 0 1 =
