@@ -1,2 +1,3 @@
--- No laws stand here: those of a character put together stand in the crate above.
+-- Document 01's words of the marks, and the wrong answers that are shut out. The laws of a character put together stand in the crate above.
+pub mod Laws
 mod ShutOut
