@@ -1,2 +1,3 @@
--- The proofs of a byte's bits: the wrong answers shut out, and a file a function.
+-- The proofs of a byte's bits: what each bit weighs, the wrong answers shut out, and a file a function.
+pub mod Laws
 mod ShutOut

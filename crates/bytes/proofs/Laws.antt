@@ -1,0 +1,50 @@
+-- What each bit of a byte weighs, written out: computed of the eight bits alone, of the bytes that have one of them and of those that lack one, and
+-- of all 256 bytes put together again. The statement takes what it speaks of, so that two bits exchanged in both are refuted by it. Assumes nothing.
+use Prim.Native.Nat.{ℕ, _+_, _≤_}
+use mathlib.Core.Path.{_≡_, refl}
+use mathlib.Core.Bool.{Bool, true, false}
+use mathlib.Core.List.{List, [], _∷_, map}
+use lib.ListN.{replicate}
+use borrow.Author.Tests.{le-ltb}
+use Rattle.format.specs.Pick.{pick}
+use Rattle.format.proofs.Laws.Numbers.{listed}
+use Rattle.bytes.specs.Bytes.{hasBit, weightOf, byteOf}
+
+-- the bytes of bit 0 alone, of bit 1 alone and so on
+abbrev pub powers : List ℕ
+powers = 1 ∷ 2 ∷ 4 ∷ 8 ∷ 16 ∷ 32 ∷ 64 ∷ 128 ∷ []
+
+-- all bits but one
+abbrev pub lacks : List ℕ
+lacks = 254 ∷ 253 ∷ 251 ∷ 247 ∷ 239 ∷ 223 ∷ 191 ∷ 127 ∷ []
+
+-- bit k of the k-th of some bytes
+abbrev pub eachAt : (ℕ → ℕ → Bool) → ℕ → List ℕ → List Bool
+eachAt has k [] = []
+eachAt has k (x ∷ xs) = has x k ∷ eachAt has (1 + k) xs
+
+-- "SR bits 7-0", "ISR bits 7-0", "bits 0-5 IP0-IP5, 6 RxDA, 7 RxDB": bit 7 is 128 and bit 0 is 1
+pub record Weighs (has : ℕ → ℕ → Bool) (byte : Bool → Bool → Bool → Bool → Bool → Bool → Bool → Bool → ℕ) : Type 0 where
+  pub weights :
+      byte false false false false false false false true
+      ∷ byte false false false false false false true false
+      ∷ byte false false false false false true false false
+      ∷ byte false false false false true false false false
+      ∷ byte false false false true false false false false
+      ∷ byte false false true false false false false false
+      ∷ byte false true false false false false false false
+      ∷ byte true false false false false false false false
+      ∷ []
+      ≡ powers
+  pub set : eachAt has 0 powers ≡ replicate 8 true
+  pub clear : eachAt has 0 lacks ≡ replicate 8 false
+  -- all 256, each from its own bits
+  pub whole :
+      listed (λ (x : ℕ). byte (has x 7) (has x 6) (has x 5) (has x 4) (has x 3) (has x 2) (has x 1) (has x 0)) 256 0
+      ≡ listed (λ (x : ℕ). x) 256 0
+  -- there is no bit above 7
+  pub above : (x n : ℕ) → 8 ≤ n → has x n ≡ false
+
+pub weighs : Weighs hasBit byteOf
+unfolding hasBit byteOf weightOf pick
+weighs = record { weights = refl; set = refl; clear = refl; whole = refl; above = λ x n l. rw (le-ltb n 8 l) }
