@@ -7,7 +7,8 @@ use lib.Dec.{eqb}
 use Rattle.format.specs.Pick.{pick}
 use Rattle.timer_state.specs.declared.counting.Timer.{Timer}
 use Rattle.timer_state.specs.Counting.{freshTimer, withCount, withRunning, modeOf, tickPulses, edgePulses}
-use Rattle.timer_state.specs.Counting.{transmitterPulses, countedDown, counterPulsed, timerPulsed}
+use Rattle.timer_state.specs.Counting.{transmitterPulses, countedDown, counterPulsed, timerPulsed, pulsedBy}
+use Rattle.timer_state.proofs.Laws.{Reset}
 
 -- "timer output high"
 no-outputLow : false ≡ freshTimer .output → ⊥
@@ -50,3 +51,15 @@ no-bit3OnLow :
     → ⊥
 unfolding timerPulsed pick
 no-bit3OnLow h = true≢false (h (withCount freshTimer 1 true))
+
+-- ---- wrong resets, each shut out by document 01's numbers ----
+-- Made in the definition and in the code together, they would still be refused.
+
+-- "count .. 0": all ones
+no-resetCountsFull : Reset (withCount freshTimer 65535 true) pulsedBy → ⊥
+no-resetCountsFull h = omega (arith, h .count)
+
+-- "counter stopped": the first edge of IP2 takes 1 from 0
+no-resetRuns : Reset (withRunning freshTimer true) pulsedBy → ⊥
+unfolding pulsedBy counterPulsed pick
+no-resetRuns h = omega (arith, h .stopped 0 (omega arith) .0)
