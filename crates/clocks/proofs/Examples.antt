@@ -2,14 +2,16 @@
 use Prim.Native.Nat.{ℕ}
 use mathlib.Core.Path.{_≡_, refl}
 use mathlib.Core.Bool.{Bool, true, false}
+use mathlib.Core.List.{List, [], _∷_}
 use lib.ListN.{replicate}
 use Rattle.format.specs.Pick.{pick}
+use Rattle.format.proofs.Laws.Numbers.{listed}
 use Rattle.dividers.specs.Divider.{dividedOf, sixteenthOf}
 use Rattle.dividers.specs.Rates.{periodOf}
 use Rattle.clocks.specs.declared.channel.ClockEvent.{ClockEvent}
 use Rattle.clocks.specs.declared.channel.Clocked.{Clocked}
 use Rattle.clocks.specs.declared.channel.Phases.{Phases}
-use Rattle.clocks.specs.Channel.{restarted, restartedOnChange, tickedOf, sideOf, transmitter1x, clockedOf}
+use Rattle.clocks.specs.Channel.{restarted, restartedOnChange, isSixteen, tickedOf, sideOf, transmitter1x, clockedOf}
 use Rattle.clocks.specs.Pulses.{afterEvents, next}
 
 abbrev pub tick : ClockEvent
@@ -54,3 +56,15 @@ code-15 p second = (refl, refl, refl)
 bit-7 : (p : Phases) → (restartedOnChange p 112 240 ≡ restarted) × (restartedOnChange p 128 255 ≡ p)
 unfolding restartedOnChange pick
 bit-7 p = (refl, refl)
+
+-- ---- the sixteen codes ----
+
+-- "Ticks per 16X pulse, codes 0 to 12"; "13: the timer's toggle to high"; "14 (16X), 15 (1X)": of the codes from 0 on, 15 alone is 1X. The statement
+-- takes the test that it speaks of.
+abbrev pub OneAlone : (ℕ → Bool) → Type 0
+OneAlone sixteen =
+    listed sixteen 16 0
+    ≡ true ∷ true ∷ true ∷ true ∷ true ∷ true ∷ true ∷ true ∷ true ∷ true ∷ true ∷ true ∷ true ∷ true ∷ true ∷ false ∷ []
+
+pub codes : OneAlone isSixteen
+codes = refl

@@ -1,14 +1,16 @@
 -- Wrong answers, each shut out by a definition: a routine that gave it would not meet its contract. Assumes nothing.
 use Prim.Native.Nat.{ℕ, _%_}
-use mathlib.Core.Path.{_≡_}
-use mathlib.Core.Bool.{Bool, true, false, false≢true}
+use mathlib.Core.Path.{_≡_, ap}
+use mathlib.Core.Bool.{Bool, true, false, not, _&&_, false≢true}
+use mathlib.Core.List.{List}
 use native.Mathlib.Omega.{arith}
-use lib.Dec.{ltb}
+use lib.Dec.{eqb, ltb}
+use lib.ListN.{getD}
 use Rattle.format.specs.Pick.{pick}
 use Rattle.clocks.specs.declared.channel.ClockEvent.{ClockEvent}
 use Rattle.clocks.specs.declared.channel.Phases.{Phases}
 use Rattle.clocks.specs.Channel.{restarted, restartedOnChange, isSixteen, sideOf, clockedOf}
-use Rattle.clocks.proofs.Examples.{midway}
+use Rattle.clocks.proofs.Examples.{midway, OneAlone}
 
 -- "A CSR write restarts that channel's phases": the 1X clock's too
 no-restartOnePulseOn : 1 ≡ restarted .sixteenths .0 → ⊥
@@ -22,6 +24,10 @@ no-anyWriteRestarts h = omega (arith, h midway 0 0)
 -- "14 (16X), 15 (1X)"
 no-code14Is1x : ((code : ℕ) → ltb code 14 ≡ isSixteen code) → ⊥
 no-code14Is1x h = false≢true (h 14)
+
+-- and by document 01's codes, which refuse it in the definition and in the code together: the timer's, 13, at 1X
+no-code13Is1x : OneAlone (λ (code : ℕ). not (eqb code 15) && not (eqb code 13)) → ⊥
+no-code13Is1x h = false≢true (ap (λ (l : List Bool). getD l 13 true) h)
 
 -- "CSR bits 7-4 receiver": they say 14, the low ones 13, and its pin rises
 no-receiverByLowBits :
