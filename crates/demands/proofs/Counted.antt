@@ -5,10 +5,9 @@ use mathlib.Core.Path.{_≡_, refl, sym, _∙_, ap}
 use mathlib.Core.Bool.{true}
 use mathlib.Core.List.{List, [], _∷_}
 use lib.Dec.{eqb}
-use Rattle.format.specs.Pick.{pick}
 use Rattle.timer_state.specs.declared.counting.Timer.{Timer}
 use Rattle.timer_state.specs.Counting.{modeOf, isTimer, pulsedBy}
-use Rattle.timer.specs.Timer.{startedOf, stoppedOf, modeChanged}
+use Rattle.timer.specs.Timer.{stoppedOf, modeChanged}
 use Rattle.timer.specs.Modes.{timerIn}
 use Rattle.timer.proofs.Modes.{timer-mode}
 use Rattle.bytes.specs.Bytes.{hasBit}

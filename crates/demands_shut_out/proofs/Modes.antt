@@ -15,9 +15,8 @@ use Rattle.events.specs.declared.events.Event.{Event}
 use Rattle.events.specs.declared.events.Event.the-variants.{Read, Write, Pins, Tick}
 use Rattle.chip_device.specs.declared.device.Device.{Device}
 use Rattle.chip_step.specs.Chip.{stepOf}
-use Rattle.chip_laws.specs.Table.{Step}
 use Rattle.demands.specs.Chip.{Chip, chipOf}
-use Rattle.demands.specs.Counter.{Loaded, Counter}
+use Rattle.demands.specs.Counter.{Counter}
 use Rattle.demands_shut_out.proofs.Chips.{isClock, withFront, leadsTo}
 use Rattle.demands.proofs.Computing.{computing}
 

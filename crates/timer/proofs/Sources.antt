@@ -22,7 +22,7 @@ use Rattle.timer_state.specs.declared.counting.Timer.{Timer}
 use Rattle.timer_state.specs.Counting.{withPhases, modeOf, isTimer, countedDown, tickPulses, edgePulses, transmitterPulses, counterPulsed, timerPulsed, pulsedBy}
 use Rattle.timer.specs.Timer.{tickedBy, edgedBy, transmittedBy, startedOf, stoppedOf, modeChanged}
 use Rattle.timer.specs.Counts.{Kept, Leaves}
-use Rattle.timer.specs.Modes.{pulseIn, aTick, anEdge, ones}
+use Rattle.timer.specs.Modes.{pulseIn, aTick, anEdge}
 use Rattle.timer.specs.Sources.{Ways, Sources, Happening, isTick, isEdge, howMany, happens, since, AlwaysRuns}
 use Rattle.timer.specs.Sources.Happening.{tick, edge, start, stop, bits, acr, preload}
 use Rattle.timer.proofs.Modes.{modes}

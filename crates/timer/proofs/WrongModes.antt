@@ -7,7 +7,8 @@ use Rattle.format.specs.Pick.{pick}
 use Rattle.timer_state.specs.Counting.{modeOf, isTimer, tickPulses, edgePulses, transmitterPulses}
 use Rattle.timer.specs.Modes.{pulseIn, Tests, Modes}
 
--- ours, but in one mode a tick, an edge of IP2 or the transmitters' clocks pulse otherwise; or it is the other of counter and timer
+-- ours, but in one mode a tick, an edge of IP2 or the transmitters' clocks pulse otherwise, or it is the other of counter and timer; or other bits of
+-- ACR choose the mode
 abbrev tickIn : ℕ → (Bool → Bool) → Tests
 tickIn k f =
     record { mode = modeOf; tick = λ mode s. pick (eqb mode k) (f s) (tickPulses mode s); edge = edgePulses; bits = transmitterPulses; timer = isTimer }
