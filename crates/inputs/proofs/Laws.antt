@@ -1,2 +1,3 @@
 -- The laws of the input pins. Assumes nothing.
+pub mod Edges
 pub mod Ranges
