@@ -16,3 +16,7 @@ no-transmitterBits11Accepted h = false≢true (h 12)
 -- and by document 01's numbers, which refuse it in the definition and in the code together: 11 in both places asked for
 no-oneOf11Accepted : Forbidden (λ (byte : ℕ). eqb (byte / 4 % 4) 3 && eqb (byte % 4) 3) → ⊥
 no-oneOf11Accepted h = false≢true (ap (λ (l : List Bool). getD l 3 true) (h .codes))
+
+-- a bit of the command beside them is looked at: 28 is accepted
+no-elevenWithCommandAccepted : Forbidden (λ (byte : ℕ). eqb (byte / 4 % 8) 3 || eqb (byte % 4) 3) → ⊥
+no-elevenWithCommandAccepted h = false≢true (h .above 28)
