@@ -6,10 +6,14 @@ use mathlib.Core.List.{List}
 use native.Mathlib.Omega.{arith}
 use lib.Dec.{eqb, ltb}
 use lib.ListN.{getD}
+use Rattle.format.specs.declared.counts.Ticks.{Ticks}
 use Rattle.format.specs.Pick.{pick}
+use Rattle.dividers.specs.Divider.{roomOf}
+use Rattle.dividers.specs.Rates.{periodOf}
+use Rattle.dividers.proofs.Laws.Divider.{ticksOf}
 use Rattle.clocks.specs.declared.channel.ClockEvent.{ClockEvent}
 use Rattle.clocks.specs.declared.channel.Phases.{Phases}
-use Rattle.clocks.specs.Channel.{restarted, restartedOnChange, isSixteen, sideOf, clockedOf}
+use Rattle.clocks.specs.Channel.{restarted, restartedOnChange, isSixteen, sideOf, clockedOf, sideRoom, sidePassed, channelPassed}
 use Rattle.clocks.proofs.Examples.{midway, OneAlone}
 
 -- "A CSR write restarts that channel's phases": the 1X clock's too
@@ -37,3 +41,20 @@ no-receiverByLowBits :
 unfolding clockedOf sideOf pick
 no-receiverByLowBits h =
     false≢true (h midway false 237 (record { tick = false; toggled = false; rising = true; falling = false }))
+
+-- ---- ticks that pass ----
+
+-- code 12, "ACR bit 7 = 0: .. 6": five ticks pass before the pulse; here the pulse is passed over
+no-pulsePassedOver : 6 ≡ sideRoom (ticksOf 0) false 12 .0 → ⊥
+unfolding sideRoom roomOf periodOf pick
+no-pulsePassedOver = omega arith
+
+-- 14 is a pin: no tick moves a phase there
+no-pinCountsTicks : ((phase : Ticks) (code : ℕ) → 1 ≡ sidePassed phase code (ticksOf 1) .0) → ⊥
+unfolding sidePassed pick
+no-pinCountsTicks h = omega (arith, h (ticksOf 0) 14)
+
+-- the phase of one side lost
+no-transmitterLost : ((p : Phases) (csr : ℕ) → p .transmitter .0 ≡ channelPassed p csr (ticksOf 1) .transmitter .0) → ⊥
+unfolding sidePassed pick
+no-transmitterLost h = omega (arith, h restarted 0)

@@ -1,5 +1,5 @@
 -- What gives each side of a channel its pulses. Assumes nothing.
-use Prim.Native.Nat.{ℕ, _/_, _%_}
+use Prim.Native.Nat.{ℕ, _+_, _/_, _%_, _^_}
 use mathlib.Core.Bool.{Bool, true, false, not}
 use lib.Dec.{eqb, ltb}
 use Rattle.format.specs.declared.counts.Pulses.{Pulses}
@@ -7,7 +7,7 @@ use Rattle.format.specs.declared.counts.Ticks.{Ticks}
 use Rattle.format.specs.Pick.{pick}
 use Rattle.dividers.specs.declared.divider.Divided.{Divided}
 use Rattle.dividers.specs.declared.divider.Sixteenth.{Sixteenth}
-use Rattle.dividers.specs.Divider.{dividedOf, sixteenthOf}
+use Rattle.dividers.specs.Divider.{dividedOf, sixteenthOf, roomOf, farOff}
 use Rattle.dividers.specs.Rates.{periodOf}
 use Rattle.clocks.specs.declared.channel.ClockEvent.{ClockEvent}
 use Rattle.clocks.specs.declared.channel.Clocked.{Clocked}
@@ -56,4 +56,24 @@ clockedOf p second csr b =
       receiver = receiver .pulse;
       transmitter = transmitter .pulse;
       one = bit .pulse;
+    }
+
+-- ---- ticks without a pulse ----
+
+-- The room before a side's pulse: its divider's. No tick is a pin's edge, and "the timer's toggle to high" is the
+-- counter/timer's end, which has a room of its own.
+unfoldable pub sideRoom : Ticks → Bool → ℕ → Ticks
+sideRoom phase second code = pick (ltb code 13) (roomOf phase (periodOf second code)) farOff
+
+-- its phase when so many ticks have passed within that room: only a divider's moves
+unfoldable pub sidePassed : Ticks → ℕ → Ticks → Ticks
+sidePassed phase code ticks = pick (ltb code 13) (record { 0 = (phase .0 + ticks .0) % 2 ^ 64 }) phase
+
+-- a channel's phases then: "CSR bits 7-4 receiver, 3-0 transmitter."
+abbrev pub channelPassed : Phases → ℕ → Ticks → Phases
+channelPassed p csr ticks =
+    record {
+      receiver = sidePassed (p .receiver) (csr / 16) ticks;
+      transmitter = sidePassed (p .transmitter) (csr % 16) ticks;
+      sixteenths = p .sixteenths;
     }

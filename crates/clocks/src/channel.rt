@@ -1,14 +1,16 @@
 // What gives each side of a channel its pulses.
 use dividers::Divided;
+use dividers::FAR_OFF;
 use dividers::Sixteenth;
 use dividers::divide;
 use dividers::divide_by_16;
 use dividers::period_of;
+use dividers::room;
 use format::Pulses;
 use format::Ticks;
 ghost use mathlib.Core.Path.{_≡_};
 ghost use Rattle.clocks.specs.Channel.{restarted, restartedOnChange, isSixteen, tickedOf, sideOf, transmitter1x};
-ghost use Rattle.clocks.specs.Channel.{clockedOf};
+ghost use Rattle.clocks.specs.Channel.{clockedOf, sideRoom, sidePassed};
 
 // "13: the timer's toggle to high"
 const TIMER_TOGGLE: u8 = 13;
@@ -148,4 +150,24 @@ pub fn clock_channel(phases: Phases, second: bool, csr: u8, event: ClockEvent) -
         transmitter: transmitter.pulse,
         one: bit.pulse,
     }
+}
+
+// The room before a side's pulse: its divider's; no tick is a pin's edge, and the timer's toggle is the counter/timer's end.
+pub fn side_room(phase: Ticks, second: bool, code: u8) -> Ticks
+    ensures { λ r. ⌜ r ≡ sideRoom phase second code ⌝ }
+{
+    if code < TIMER_TOGGLE {
+        return room(phase, period_of(second, code));
+    }
+    Ticks(FAR_OFF)
+}
+
+// A side's phase when so many ticks have passed without a pulse of it.
+pub fn pass_side(phase: Ticks, code: u8, ticks: Ticks) -> Ticks
+    ensures { λ r. ⌜ r ≡ sidePassed phase code ticks ⌝ }
+{
+    if code < TIMER_TOGGLE {
+        return Ticks(std::num::wrapping_add_u64(phase.0, ticks.0));
+    }
+    phase
 }

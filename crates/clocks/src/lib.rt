@@ -7,5 +7,7 @@ pub use channel::Clocked;
 pub use channel::Phases;
 pub use channel::clock_channel;
 pub use channel::is_sixteen;
+pub use channel::pass_side;
 pub use channel::restart;
 pub use channel::restart_on_change;
+pub use channel::side_room;

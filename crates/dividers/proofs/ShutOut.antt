@@ -9,7 +9,7 @@ use lib.ListN.{getD}
 use Rattle.format.specs.declared.counts.Pulses.{Pulses}
 use Rattle.format.specs.declared.counts.Ticks.{Ticks}
 use Rattle.format.specs.Pick.{pick}
-use Rattle.dividers.specs.Divider.{dividedOf, sixteenthOf}
+use Rattle.dividers.specs.Divider.{dividedOf, sixteenthOf, roomOf}
 use Rattle.dividers.specs.Rates.{periodOf}
 use Rattle.dividers.proofs.Laws.Rates.{Periods}
 
@@ -24,6 +24,16 @@ no-tickEarly h = true≢false (h (record { 0 = 1 }) (record { 0 = 3 }))
 no-every17th : ((phase : Pulses) → not (ltb (phase .0) 16) ≡ sixteenthOf phase .pulse) → ⊥
 unfolding sixteenthOf pick
 no-every17th h = false≢true (h (record { 0 = 15 }))
+
+-- code 12, "6": from phase 0 five ticks pass, and the sixth is the pulse
+no-roomOfSix : 6 ≡ roomOf (record { 0 = 0 }) (record { 0 = 6 }) .0 → ⊥
+unfolding roomOf
+no-roomOfSix = omega arith
+
+-- room where the phase is not below the period
+no-roomPastThePeriod : ((phase period : Ticks) → 1 ≡ roomOf phase period .0) → ⊥
+unfolding roomOf
+no-roomPastThePeriod h = omega (arith, h (record { 0 = 6 }) (record { 0 = 6 }))
 
 -- "ACR bit 7 = 1: 3072, 2096, 1712, 1536, ..": the periods of codes 0 and 3 exchanged
 no-secondSet0As3 : 1536 ≡ periodOf true 0 .0 → ⊥

@@ -6,8 +6,10 @@ use native.Mathlib.Omega.{arith}
 use lib.Dec.{eqb}
 use Rattle.format.specs.Pick.{pick}
 use Rattle.timer_state.specs.declared.counting.Timer.{Timer}
-use Rattle.timer_state.specs.Counting.{freshTimer, withPreload, withRunning, modeOf, isTimer}
+use Rattle.dividers.proofs.Laws.Divider.{ticksOf}
+use Rattle.timer_state.specs.Counting.{freshTimer, withPreload, withCount, withRunning, modeOf, isTimer}
 use Rattle.timer.specs.Timer.{startedOf, stoppedOf, modeChanged}
+use Rattle.timer.specs.Passing.{sixteenthsRoom, runningRoom, timerRoom, pulsesIn, countedBy, timerPassed}
 
 -- a counter under way
 abbrev running : Timer
@@ -36,3 +38,30 @@ no-countsInNewMode :
     → ⊥
 unfolding modeChanged pick
 no-countsInNewMode h = true≢false (h running 0 16)
+
+-- ---- ticks that pass ----
+
+-- "Timer on ticks, preload 2, start": the second tick is the toggle, so one passes; here the toggle is passed over
+no-togglePassedOver : 2 ≡ timerRoom (withCount freshTimer 2 true) 6 .0 → ⊥
+unfolding timerRoom runningRoom pick
+no-togglePassedOver = omega arith
+
+-- "Counter on ticks/16, phase 0, preload 3: ISR bit 3 after 48 ticks, not 47."; here its end is passed over
+no-endPassedOver : 48 ≡ timerRoom (withRunning (withCount freshTimer 3 true) true) 3 .0 → ⊥
+unfolding timerRoom runningRoom sixteenthsRoom pick
+no-endPassedOver = omega arith
+
+-- "Both /16 phases always run"
+no-sixteenthLost : ((t : Timer) (mode : ℕ) → t .ticks .0 ≡ timerPassed t mode (ticksOf 1) .ticks .0) → ⊥
+unfolding timerPassed
+no-sixteenthLost h = omega (arith, h freshTimer 0)
+
+-- "Each pulse takes 1 from the count": in 48 ticks there are three
+no-pulseEachTick : 48 ≡ pulsesIn freshTimer 3 (ticksOf 48) → ⊥
+unfolding pulsesIn pick
+no-pulseEachTick = omega arith
+
+-- a counter that was not started
+no-stoppedCounts : 65533 ≡ timerPassed freshTimer 3 (ticksOf 48) .count → ⊥
+unfolding timerPassed pulsesIn countedBy pick
+no-stoppedCounts = omega arith
