@@ -21,8 +21,11 @@ abbrev pub isrOf : Front → Shown → Shown → ℕ
 isrOf f a b = interruptStatus (hasChosenChange (f .inputs) (f .acr)) (f .timer .ready) a b
 
 -- "IRQ is asserted when ISR and IMR share a set bit"
+abbrev pub shareABit : ℕ → ℕ → Bool
+shareABit isr imr = not (eqb (bitAnd isr imr) 0)
+
 unfoldable pub assertedOf : Front → Shown → Shown → Bool
-assertedOf f a b = not (eqb (bitAnd (isrOf f a b) (f .imr)) 0)
+assertedOf f a b = shareABit (isrOf f a b) (f .imr)
 
 -- "OPCR 3-2 = 01 puts the timer output on OP3, or in counter mode the complement of ISR bit 3."
 unfoldable pub timerLevel : Front → ℕ → Bool

@@ -10,8 +10,8 @@ use outputs::op_levels;
 use timer_state::is_timer;
 use timer_state::mode_of;
 ghost use mathlib.Core.Path.{_≡_};
-ghost use Rattle.chip_answers.specs.Answers.{isrOf, assertedOf, timerLevel, linesOf, noLines, registerData};
-ghost use Rattle.chip_answers.specs.Answers.{eventData};
+ghost use Rattle.chip_answers.specs.Answers.{isrOf, shareABit, assertedOf, timerLevel, linesOf, noLines};
+ghost use Rattle.chip_answers.specs.Answers.{registerData, eventData};
 
 // "IRQ (1 when asserted), TxDA, TxDB, the OP0-OP7 levels"
 #[repr(C)]
@@ -36,10 +36,16 @@ fn isr_of(front: Front, a: Shown, b: Shown) -> u8
 }
 
 // "IRQ is asserted when ISR and IMR share a set bit"
+fn share_a_bit(isr: u8, imr: u8) -> bool
+    ensures { λ r. ⌜ r ≡ shareABit isr imr ⌝ }
+{
+    isr & imr != 0
+}
+
 pub fn is_asserted(front: Front, a: Shown, b: Shown) -> bool
     ensures { λ r. ⌜ r ≡ assertedOf front a b ⌝ }
 {
-    isr_of(front, a, b) & front.imr != 0
+    share_a_bit(isr_of(front, a, b), front.imr)
 }
 
 // "the timer output on OP3, or in counter mode the complement of ISR bit 3"
@@ -57,7 +63,7 @@ pub fn lines_of(front: Front, a: Shown, b: Shown) -> Lines
 {
     let isr = isr_of(front, a, b);
     Lines {
-        irq: is_asserted(front, a, b),
+        irq: share_a_bit(isr, front.imr),
         txda: front.a.transmitter.txd,
         txdb: front.b.transmitter.txd,
         op: op_levels(front.outputs, isr, timer_level(front, isr)),

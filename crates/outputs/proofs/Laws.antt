@@ -1,10 +1,14 @@
--- What OPCR may hold, written out: computed over all 256 bytes. Assumes nothing.
-use Prim.Native.Nat.{ℕ}
-use mathlib.Core.Path.{_≡_, refl}
+-- What OPCR may hold, written out: computed over all 256 bytes; and the levels where it turns no pin. Assumes nothing.
+use Prim.Native.Nat.{ℕ, _-_, _<_}
+use mathlib.Core.Path.{_≡_, refl, ap}
 use mathlib.Core.Bool.{Bool}
 use mathlib.Core.List.{List, [], _∷_}
 use Rattle.format.proofs.Laws.Numbers.{accepted}
-use Rattle.outputs.specs.Outputs.{opcrNotModelled}
+use Rattle.format.specs.Pick.{pick}
+use Rattle.bytes.specs.Bytes.{hasBit}
+use Rattle.bytes.proofs.Laws.{own-bits}
+use Rattle.outputs.specs.declared.outputs.Outputs.{Outputs}
+use Rattle.outputs.specs.Outputs.{opcrNotModelled, drivenBy, drivenOp3, opLevels}
 
 -- "Not modelled (5): .. OPCR bits 1-0 not 00, or bits 3-2 = 10 or 11.": the bytes that are accepted, of all 256. The statement takes the test that
 -- it speaks of.
@@ -16,3 +20,8 @@ Modelled opcr =
 
 pub modelled : Modelled opcrNotModelled
 modelled = refl
+
+-- "OP pins are the complement of the output bits."
+pub plain-levels : (o : Outputs) (isr : ℕ) (timer : Bool) → o .opcr ≡ 0 → o .bits < 256 → opLevels o isr timer ≡ 255 - o .bits
+unfolding opLevels drivenBy drivenOp3 hasBit pick
+plain-levels o isr timer e l = rw e (ap (λ (x : ℕ). 255 - x) (own-bits (o .bits) l))

@@ -77,10 +77,13 @@ fn driven_op3(outputs: Outputs, timer: bool) -> bool
     has_bit(outputs.bits, 3)
 }
 
-// "OP pins are the complement of the output bits."
+// "OP pins are the complement of the output bits.": all of them where OPCR turns none into something else.
 pub fn op_levels(outputs: Outputs, isr: u8, timer: bool) -> u8
     ensures { λ r. ⌜ r ≡ opLevels outputs isr timer ⌝ }
 {
+    if outputs.opcr == 0 {
+        return 255 - outputs.bits;
+    }
     let driven = byte_of(
         driven_by(outputs, isr, 7, 4),
         driven_by(outputs, isr, 6, 0),

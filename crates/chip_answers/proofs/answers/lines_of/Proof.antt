@@ -2,13 +2,13 @@
 use Prim.{tt}
 use Rattle.chip_answers.proofs.answers.lines_of.Statement.{statement}
 use Rattle.chip_answers.proofs.answers.lines_of.Tie as tie
-use Rattle.chip_answers.specs.Answers.{linesOf}
+use Rattle.chip_answers.specs.Answers.{assertedOf, linesOf}
 
 isr-of-requires : tie.Need-isr-of-requires
 isr-of-requires c κs = tt
 
-is-asserted-requires : tie.Need-is-asserted-requires
-is-asserted-requires c κs = tt
+share-a-bit-requires : tie.Need-share-a-bit-requires
+share-a-bit-requires c κs = tt
 
 timer-level-requires : tie.Need-timer-level-requires
 timer-level-requires c κs = tt
@@ -17,10 +17,10 @@ op-levels-requires : tie.Need-op-levels-requires
 op-levels-requires c κs = tt
 
 returns : tie.Need-returns
-unfolding linesOf
-returns c = simp (c .op-levels .ensures, c .before .timer-level .ensures, c .before .before .is-asserted .ensures, c .before .before .before .isr-of .ensures)
+unfolding assertedOf linesOf
+returns c = simp (c .op-levels .ensures, c .before .timer-level .ensures, c .before .before .share-a-bit .ensures, c .before .before .before .isr-of .ensures)
 
 pub lines-of-spec : {M : Type 1} → statement M
 lines-of-spec =
     tie.close
-    (tie.spec isr-of-requires is-asserted-requires timer-level-requires op-levels-requires returns)
+    (tie.spec isr-of-requires share-a-bit-requires timer-level-requires op-levels-requires returns)
