@@ -7,8 +7,6 @@ use feed::Setting;
 use format::format_of;
 use front_side::Side;
 use inputs::ChannelPins;
-use transmitter::Input;
-use transmitter::step_transmitter;
 use transmitter_state::Standing;
 use transmitter_state::Transmitter;
 ghost use mathlib.Core.Path.{_≡_};
@@ -34,7 +32,7 @@ fn pulse_transmitter(side: Side, pulse: bool, cts: bool) -> Transmitter
             sixteen: is_sixteen(side.csr % 16),
             cts: cts,
         };
-        return step_transmitter(side.transmitter, Input::Pulse(standing));
+        return transmitter_state::pulse(side.transmitter, standing);
     }
     side.transmitter
 }
@@ -81,9 +79,16 @@ pub fn clock_side(
     let clocked = clock_channel(side.phases, second, side.csr, event);
     let phases = clocked.phases;
     let transmitter = pulse_transmitter(side, clocked.transmitter, pins.cts);
-    let mut s = side;
-    s.transmitter = transmitter;
-    s.phases = phases;
+    // each field by its name: a copy of the whole copies the gaps between the fields too
+    let s = Side {
+        mr1: side.mr1,
+        mr2: side.mr2,
+        moved: side.moved,
+        csr: side.csr,
+        enabled: side.enabled,
+        transmitter: transmitter,
+        phases: phases,
+    };
     let feed = line_of(s, clocked.receiver, pins.rxd);
     Clocking {
         side: s,

@@ -8,8 +8,11 @@ use crate::state::Transmitter;
 use format::Bits;
 use format::Pulses;
 ghost use mathlib.Core.Path.{_≡_};
+ghost use mathlib.Core.Bool.{false, _&&_};
+ghost use lib.Dec.{eqb, ltb};
+ghost use Rattle.transmitter_state.specs.State.{sending};
 ghost use Rattle.transmitter_state.specs.Sending.{clearToSend, canStart, takenOf, startedOf, breakBegun, idleOf};
-ghost use Rattle.transmitter_state.specs.Sending.{begunOf, bitOfPulse, sentOnOf, heldHigh, pulsedOf};
+ghost use Rattle.transmitter_state.specs.Sending.{begunOf, bitOfPulse, heldHigh, pulsedOf};
 
 // What a pulse finds: the mode registers, 16X or 1X, and the level of CTS, as they stand.
 pub struct Standing {
@@ -106,26 +109,6 @@ fn bit_of_pulse(sixteen: bool, pulse: Pulses) -> Bits
     Bits(pulse.0)
 }
 
-// A pulse while the shifter holds a character: the next level of its frame, and "at the earliest on the
-// pulse after a frame's last" another start.
-fn send_on(transmitter: Transmitter, standing: Standing) -> Transmitter
-    ensures { λ r. ⌜ r ≡ sentOnOf transmitter standing ⌝ }
-{
-    let mut shifter = transmitter.shifter;
-    if shifter.sent.0 < shifter.length.0 {
-        let bit = bit_of_pulse(shifter.sixteen, shifter.sent);
-        let level = frame::level_of(shifter.frame, bit);
-        let next = shifter.sent.0 + 1;
-        let sent = Pulses(next);
-        shifter.sent = sent;
-        let mut t = transmitter;
-        t.shifter = shifter;
-        t.txd = level;
-        return t;
-    }
-    begin(transmitter, standing)
-}
-
 // "and for one bit (16 pulses, or 1) before a start or a new break", by CSR as it stands.
 fn hold_high(transmitter: Transmitter, standing: Standing) -> Transmitter
     ensures { λ r. ⌜ r ≡ heldHigh transmitter standing ⌝ }
@@ -142,14 +125,13 @@ fn hold_high(transmitter: Transmitter, standing: Standing) -> Transmitter
     go_idle(transmitter)
 }
 
-// One pulse of the transmitter's clock. In a break it does nothing: "stop, disable or reset ends it,
+// A pulse that finds no frame under way. In a break it does nothing: "stop, disable or reset ends it,
 // nothing else".
-pub fn pulse(transmitter: Transmitter, standing: Standing) -> Transmitter
+fn pulse_between(transmitter: Transmitter, standing: Standing) -> Transmitter
+    requires { ⌜ (eqb (transmitter .phase) sending
+        && ltb (transmitter .shifter .sent .0) (transmitter .shifter .length .0)) ≡ false ⌝ }
     ensures { λ r. ⌜ r ≡ pulsedOf transmitter standing ⌝ }
 {
-    if transmitter.phase == SENDING {
-        return send_on(transmitter, standing);
-    }
     if transmitter.phase == IN_BREAK {
         return transmitter;
     }
@@ -157,4 +139,25 @@ pub fn pulse(transmitter: Transmitter, standing: Standing) -> Transmitter
         return hold_high(transmitter, standing);
     }
     begin(transmitter, standing)
+}
+
+// One pulse of the transmitter's clock. Most find a frame under way: the next level of it; and "at the
+// earliest on the pulse after a frame's last" another start. The rest is called at two places: called at
+// one it would be compiled into this routine, and this one, then large, no longer into its callers.
+pub fn pulse(transmitter: Transmitter, standing: Standing) -> Transmitter
+    ensures { λ r. ⌜ r ≡ pulsedOf transmitter standing ⌝ }
+{
+    if transmitter.phase == SENDING {
+        if transmitter.shifter.sent.0 < transmitter.shifter.length.0 {
+            let bit = bit_of_pulse(transmitter.shifter.sixteen, transmitter.shifter.sent);
+            let level = frame::level_of(transmitter.shifter.frame, bit);
+            let next = transmitter.shifter.sent.0 + 1;
+            let mut t = transmitter;
+            t.shifter.sent.0 = next;
+            t.txd = level;
+            return t;
+        }
+        return pulse_between(transmitter, standing);
+    }
+    pulse_between(transmitter, standing)
 }

@@ -3,17 +3,18 @@ use Prim.{tt}
 use Rattle.front_side_clocks.proofs.clocking.pulse_transmitter.Statement.{statement}
 use Rattle.front_side_clocks.proofs.clocking.pulse_transmitter.Tie as tie
 use Rattle.format.proofs.Laws.{steps}
+use Rattle.transmitter.specs.Transmitter.{afterInput}
 use Rattle.front_side_clocks.specs.Clocking.{transmitterPulsed}
 
 is-sixteen-requires : tie.Need-is-sixteen-requires
 is-sixteen-requires c κs = tt
 
-step-transmitter-requires : tie.Need-step-transmitter-requires
-step-transmitter-requires c κs = tt
+pulse-requires : tie.Need-pulse-requires
+pulse-requires c κs = tt
 
 returns : tie.Need-returns
-unfolding transmitterPulsed
-returns c = simp (c .step-transmitter .ensures, c .before .is-sixteen .ensures) (search steps)
+unfolding transmitterPulsed afterInput
+returns c = simp (c .pulse .ensures, c .before .is-sixteen .ensures) (search steps)
 
 returns-2 : tie.Need-returns-2
 unfolding transmitterPulsed
@@ -21,4 +22,4 @@ returns-2 c = search steps
 
 pub pulse-transmitter-spec : {M : Type 1} → statement M
 pulse-transmitter-spec =
-    tie.close (tie.spec is-sixteen-requires step-transmitter-requires returns returns-2)
+    tie.close (tie.spec is-sixteen-requires pulse-requires returns returns-2)
