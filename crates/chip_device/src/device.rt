@@ -33,7 +33,13 @@ pub fn fresh() -> Device
 pub fn is_sound(device: Device) -> bool
     ensures { λ r. ⌜ r ≡ isSoundOf device ⌝ }
 {
-    front_in_range(device.front) & (receiver_is_sound(device.a) & receiver_is_sound(device.b))
+    if !front_in_range(device.front) {
+        return false;
+    }
+    if !receiver_is_sound(device.a) {
+        return false;
+    }
+    receiver_is_sound(device.b)
 }
 
 // The lines as this state drives them.
