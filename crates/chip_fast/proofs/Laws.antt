@@ -1,3 +1,4 @@
--- The laws of the short way: a quiet tick is a tick, and the answer to it is the step's. Assumes nothing.
-pub mod Still
+-- The laws of the short ways: a tick within the room is a tick, many are as many, and the answers are the step's. Assumes nothing.
+pub mod Passing
 pub mod Ticked
+pub mod Many

@@ -1,3 +1,3 @@
--- The proofs of the short way, and the wrong answers that are shut out.
+-- The proofs of the short ways, and the wrong answers that are shut out.
 pub mod Laws
 mod ShutOut

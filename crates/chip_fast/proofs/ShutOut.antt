@@ -1,19 +1,22 @@
 -- Wrong answers, each shut out by a definition: a routine that gave it would not meet its contract. Assumes nothing.
-use Prim.Native.Nat.{ℕ, _/_}
+use Prim.Native.Nat.{ℕ}
 use mathlib.Core.Path.{_≡_}
+use mathlib.Core.Bool.{true, true≢false}
 use native.Mathlib.Omega.{arith}
+use Rattle.dividers.proofs.Laws.Divider.{ticksOf}
 use Rattle.clocks.specs.declared.channel.Phases.{Phases}
-use Rattle.timer_state.specs.declared.counting.Timer.{Timer}
-use Rattle.timer_state.specs.Counting.{freshTimer}
+use Rattle.timer_state.specs.Counting.{freshTimer, withCount}
+use Rattle.timer.specs.Passing.{timerPassed}
+use Rattle.clocks.specs.Channel.{sidePassed}
 use Rattle.front_side.specs.Side.{freshSide, withClocks}
-use Rattle.front.specs.Front.{frontAt, withSides}
+use Rattle.front.specs.Front.{frontAt, withSides, withRegisters}
 use Rattle.events.specs.declared.events.Event.the-variants.{Tick}
 use Rattle.chip_device.specs.declared.device.Device.{Device}
 use Rattle.chip_device.specs.Device.{freshDevice}
 use Rattle.chip_device.proofs.Examples.{fiveFlags}
 use Rattle.chip_step.specs.Chip.{stepOf}
-use Rattle.chip_fast.specs.Quiet.{isStill, nextPhase, areStill, quietOf}
-use Rattle.chip_fast.specs.Fast.{atRest, countedIn, tickAnswer}
+use Rattle.chip_fast.specs.Passing.{passedOf}
+use Rattle.chip_fast.specs.Fast.{atRest}
 use Rattle.chip_laws.proofs.Computing.{computing}
 
 -- 4607 ticks after the last pulse
@@ -37,28 +40,38 @@ phaseB d = d .front .b .phases .receiver .0
 abbrev sixteenth : Device → ℕ
 sixteenth d = d .front .timer .ticks .0
 
+-- "Timer on ticks", and the next one is terminal
+abbrev dueTimer : Device
+dueTimer =
+    record {
+      front = withRegisters (withSides (frontAt 255) freshSide freshSide (withCount freshTimer 1 true)) 96 0 15;
+      a = freshDevice .a;
+      b = freshDevice .b;
+    }
+
 -- "the data byte (0 where none is read)"
 no-restReadsByte : ((d : Device) → 255 ≡ atRest d .byte) → ⊥
 unfolding atRest
 no-restReadsByte h = omega (arith, h freshDevice)
 
--- "Both /16 phases always run": in a quiet tick too
-no-quietLosesTimer : sixteenth (quietOf freshDevice freshTimer) ≡ sixteenth (tickAnswer freshDevice .state) → ⊥
-unfolding computing tickAnswer atRest quietOf areStill isStill
-no-quietLosesTimer = omega arith
+-- "Both /16 phases always run": in a still tick too
+no-tickLosesSixteenth : sixteenth freshDevice ≡ sixteenth (stepOf freshDevice Tick .state) → ⊥
+unfolding computing
+no-tickLosesSixteenth = omega arith
 
--- the phase of A's receiver after a tick without a pulse
-abbrev nextA : Device → ℕ
-nextA d = nextPhase (d .front .a .phases .receiver) (d .front .a .csr / 16) .0
-
--- a tick is quiet where neither channel has a pulse: this one looks at A alone
-no-pulsesOfBUnseen : phaseB (quietOf dueB (countedIn (dueB .front) .timer)) ≡ phaseB (tickAnswer dueB .state) → ⊥
-unfolding computing tickAnswer atRest quietOf nextPhase areStill isStill
+-- a tick is still where neither channel has a pulse: this one looks at A alone
+no-pulsesOfBUnseen : phaseB (passedOf dueB (ticksOf 1)) ≡ phaseB (stepOf dueB Tick .state) → ⊥
+unfolding computing passedOf sidePassed
 no-pulsesOfBUnseen = omega arith
 
-no-phaseOfAForB : ((d : Device) (t : Timer) → nextA d ≡ phaseB (quietOf d t)) → ⊥
-unfolding computing quietOf nextPhase
-no-phaseOfAForB h = omega (arith, h dueB freshTimer)
+no-phaseOfAForB : ((d : Device) → passedOf d (ticksOf 1) .front .a .phases .receiver .0 ≡ phaseB (passedOf d (ticksOf 1))) → ⊥
+unfolding computing passedOf sidePassed
+no-phaseOfAForB h = omega (arith, h dueB)
+
+-- "terminal toggles": this one does not look at the counter/timer
+no-toggleUnseen : passedOf dueTimer (ticksOf 1) .front .timer .output ≡ stepOf dueTimer Tick .state .front .timer .output → ⊥
+unfolding computing passedOf timerPassed
+no-toggleUnseen h = true≢false h
 
 -- "the state given is unsound"
 no-unsoundTicked : 0 ≡ stepOf fiveFlags Tick .number → ⊥

@@ -1,20 +1,23 @@
-// The step, with a short way for a tick of a sound device: rows 2 to 6 refuse no tick, and row 7 refuses none of a
-// sound device, so the new state need not be looked at.
-use crate::quiet::are_still;
-use crate::quiet::tick_quietly;
+// The step, with short ways for a tick: rows 2 to 6 refuse none, and row 7 none of a sound device, so that soundness is asked
+// once and the new state not looked at.
+use crate::passing::has_room;
+use chip_answers::no_lines;
 use chip_device::Device;
 use chip_device::device_lines;
 use chip_device::is_sound;
 use chip_step::Answer;
 use chip_step::step;
+use clocks::pass_side;
 use events::Event;
+use format::Ticks;
 use front_clocks::tick_front;
 use receiver::feed_receiver;
-use timer::step_by_tick;
+use timer::pass_timer;
 use timer_state::mode_of;
 ghost use mathlib.Core.Path.{_≡_};
-ghost use Rattle.chip_step.specs.Chip.{stepOf};
-ghost use Rattle.chip_fast.specs.Fast.{isTick, atRest, fullOf, tickAnswer};
+ghost use Rattle.events.specs.declared.events.Event.the-variants.{Acknowledge};
+ghost use Rattle.chip_step.specs.Chip.{refusedOf, stepOf};
+ghost use Rattle.chip_fast.specs.Fast.{isTick, atRest, fullOf, lateAnswer};
 
 fn is_tick(event: Event) -> bool
     ensures { λ r. ⌜ r ≡ isTick event ⌝ }
@@ -61,43 +64,85 @@ fn tick_fully(device: Device) -> Device
     }
 }
 
-// The counter/timer first, for code 13 is its toggle; then the quiet way where no clock has a pulse.
-fn answer_tick(device: Device) -> Answer
-    ensures { λ r. ⌜ r ≡ tickAnswer device ⌝ }
+// 1: "the state given is unsound"; "data 0, the state as given, .. (for 1, all lines 0)".
+fn refuse_unsound(device: Device) -> Answer
+    ensures { λ r. ⌜ r ≡ refusedOf device 1 ⌝ }
 {
-    let acr = device.front.acr;
-    let second = acr / 128 == 1;
-    let counted = step_by_tick(device.front.timer, mode_of(acr));
-    let timer = counted.timer;
-    let toggled = counted.toggled;
-    let a = are_still(
-        device.front.a.phases.receiver,
-        device.front.a.phases.transmitter,
-        second,
-        device.front.a.csr,
-        toggled,
-    );
-    let b = are_still(
-        device.front.b.phases.receiver,
-        device.front.b.phases.transmitter,
-        second,
-        device.front.b.csr,
-        toggled,
-    );
-    if a & b {
-        return at_rest(tick_quietly(device, timer));
+    Answer {
+        number: 1,
+        byte: 0,
+        lines: no_lines(),
+        state: device,
     }
-    at_rest(tick_fully(device))
 }
 
-// One event, one answer: `step`'s.
+// "acknowledge then reads IVR and changes nothing": the lines of the state given are those of the new one, and row 6, "acknowledge
+// while IRQ is not asserted", is told by them.
+fn acknowledge(device: Device) -> Answer
+    ensures { λ r. ⌜ r ≡ stepOf device Acknowledge ⌝ }
+{
+    let mut answer = refuse_unsound(device);
+    if is_sound(device) {
+        let lines = device_lines(device);
+        answer.lines = lines;
+        if lines.irq {
+            answer.number = 0;
+            answer.byte = device.front.ivr;
+        } else {
+            answer.number = 6;
+        }
+    }
+    answer
+}
+
+// What is not answered in place. It is called at two places, so that it is compiled apart: within them it would cut the
+// device up into its fields.
+fn answer_late(device: Device, event: Event) -> Answer
+    ensures { λ r. ⌜ r ≡ lateAnswer device event ⌝ }
+{
+    if is_tick(event) {
+        return at_rest(tick_fully(device));
+    }
+    match event {
+        Event::Acknowledge => acknowledge(device),
+        other => step(device, event),
+    }
+}
+
+// One event, one answer: `step`'s. A still tick is answered in place: no line changes, and six fields move by one tick.
+// `look` is what is read and lent, so that of the device itself only these fields are taken out.
 pub fn swift_step(device: Device, event: Event) -> Answer
     ensures { λ r. ⌜ r ≡ stepOf device event ⌝ }
 {
+    let look = device;
+    let mut answer = refuse_unsound(device);
     if is_tick(event) {
-        if is_sound(device) {
-            return answer_tick(device);
+        if is_sound(look) {
+            if has_room(look.front) {
+                let csr_a = look.front.a.csr;
+                let csr_b = look.front.b.csr;
+                let receiver_a = pass_side(device.front.a.phases.receiver, csr_a / 16, Ticks(1));
+                let sender_a = pass_side(device.front.a.phases.transmitter, csr_a % 16, Ticks(1));
+                let receiver_b = pass_side(device.front.b.phases.receiver, csr_b / 16, Ticks(1));
+                let sender_b = pass_side(device.front.b.phases.transmitter, csr_b % 16, Ticks(1));
+                let timer = pass_timer(device.front.timer, mode_of(look.front.acr), Ticks(1));
+                answer.state.front.a.phases.receiver.0 = receiver_a.0;
+                answer.state.front.a.phases.transmitter.0 = sender_a.0;
+                answer.state.front.b.phases.receiver.0 = receiver_b.0;
+                answer.state.front.b.phases.transmitter.0 = sender_b.0;
+                answer.state.front.timer.count = timer.count;
+                answer.state.front.timer.ticks.0 = timer.ticks.0;
+                let lines = device_lines(look);
+                answer.number = 0;
+                answer.lines = lines;
+            } else {
+                let late = answer_late(look, event);
+                answer = late;
+            }
         }
+    } else {
+        let late = answer_late(look, event);
+        answer = late;
     }
-    step(device, event)
+    answer
 }

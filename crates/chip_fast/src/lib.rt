@@ -1,7 +1,7 @@
-// The step by value, faster: a tick of a sound device goes a short way, every other event the chip's own.
-// What it answers is what the chip answers.
+// The step by value, faster: a still tick is answered in place, every other event by the chip's own rules. What it
+// answers is what the chip answers.
 mod fast;
-mod quiet;
+mod passing;
 
 pub use fast::at_rest;
 pub use fast::swift_step;
