@@ -203,10 +203,17 @@ enum {
     DUART_SPACE_SHORT = 8        /* a frame request's space is shorter than the frame */
 };
 
-/* What is seen of an answer. Refused: data 0, and the lines as the device drives them (for 1, all lines 0). */
+/*
+ * What is seen of an answer. Refused: data 0, stale, and the lines as the device drives them (for 1, all lines 0).
+ *
+ * Order 1: "The receive buffer read shall also say fresh or stale: fresh exactly when RxRDY was set before it." RxRDY is bit 0 of
+ * that channel's SR: MR1 bit 6 and the receiver's enable play no part. A fresh read took the byte, be it equal to the last or not; a
+ * stale one repeats the last byte and changes nothing. A refused read and any other event are stale.
+ */
 typedef struct duart_seen {
     uint8_t number;
     uint8_t data; /* the data byte, 0 where none is read */
+    bool fresh;   /* an accepted read of register 3 or 11, and RxRDY of that channel was set before it */
     bool irq;     /* asserted */
     bool txda;
     bool txdb;

@@ -63,3 +63,16 @@ eventData f a b first second (Write n byte) = 0
 eventData f a b first second Acknowledge = f .ivr
 eventData f a b first second (Pins levels) = 0
 eventData f a b first second Tick = 0
+
+-- Order 1: "The receive buffer read shall also say fresh or stale"; "any other event is stale". `first` and `second` are
+-- what the receivers of A and B said of a read of their buffers.
+unfoldable pub registerFresh : Bool → Bool → ℕ → Bool
+registerFresh first second n = pick (eqb n 3) first (pick (eqb n 11) second false)
+
+unfoldable pub eventFresh : Bool → Bool → Event → Bool
+eventFresh first second ChipReset = false
+eventFresh first second (Read n) = registerFresh first second n
+eventFresh first second (Write n byte) = false
+eventFresh first second Acknowledge = false
+eventFresh first second (Pins levels) = false
+eventFresh first second Tick = false

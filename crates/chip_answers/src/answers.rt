@@ -11,7 +11,7 @@ use timer_state::is_timer;
 use timer_state::mode_of;
 ghost use mathlib.Core.Path.{_≡_};
 ghost use Rattle.chip_answers.specs.Answers.{isrOf, shareABit, assertedOf, timerLevel, linesOf, noLines};
-ghost use Rattle.chip_answers.specs.Answers.{registerData, eventData};
+ghost use Rattle.chip_answers.specs.Answers.{registerData, eventData, registerFresh, eventFresh};
 
 // "IRQ (1 when asserted), TxDA, TxDB, the OP0-OP7 levels"
 #[repr(C)]
@@ -107,5 +107,30 @@ pub fn event_data(front: Front, a: Shown, b: Shown, first: u8, second: u8, event
         Event::Acknowledge => front.ivr,
         Event::Pins(levels) => 0,
         Event::Tick => 0,
+    }
+}
+
+// Order 1: "The receive buffer read shall also say fresh or stale".
+fn register_fresh(first: bool, second: bool, register: u8) -> bool
+    ensures { λ r. ⌜ r ≡ registerFresh first second register ⌝ }
+{
+    match register {
+        3 => first,
+        11 => second,
+        _ => false,
+    }
+}
+
+// "any other event is stale"
+pub fn event_fresh(first: bool, second: bool, event: Event) -> bool
+    ensures { λ r. ⌜ r ≡ eventFresh first second event ⌝ }
+{
+    match event {
+        Event::ChipReset => false,
+        Event::Read(register) => register_fresh(first, second, register),
+        Event::Write(register, byte) => false,
+        Event::Acknowledge => false,
+        Event::Pins(levels) => false,
+        Event::Tick => false,
     }
 }

@@ -3,6 +3,7 @@ mod answers;
 
 pub use answers::Lines;
 pub use answers::event_data;
+pub use answers::event_fresh;
 pub use answers::is_asserted;
 pub use answers::lines_of;
 pub use answers::no_lines;

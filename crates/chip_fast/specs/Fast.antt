@@ -18,7 +18,7 @@ isTick Tick = true
 
 -- accepted, no data, "lines as that state drives them"
 unfoldable pub atRest : Device → Answer
-atRest d = record { number = 0; byte = 0; lines = deviceLines d; state = d }
+atRest d = record { number = 0; byte = 0; fresh = false; lines = deviceLines d; state = d }
 
 -- the state after any tick, by the chip's own rule
 abbrev pub fullOf : Device → Device

@@ -40,6 +40,7 @@ pub fn at_rest(state: Device) -> Answer
     Answer {
         number: 0,
         byte: 0,
+        fresh: false,
         lines: device_lines(state),
         state: state,
     }
@@ -71,6 +72,7 @@ fn refuse_unsound(device: Device) -> Answer
     Answer {
         number: 1,
         byte: 0,
+        fresh: false,
         lines: no_lines(),
         state: device,
     }

@@ -23,7 +23,7 @@ use Rattle.front_writes.specs.Writes.{sideWritten, acrWritten, sharedWritten, r
 use Rattle.front_reads.specs.Reads.{sideRead, sharedRead, registerRead, frontData}
 use Rattle.front_events.specs.FrontEvents.{frontStepped}
 use Rattle.chip_shown.specs.Shown.{receivedOf, shownOf}
-use Rattle.chip_answers.specs.Answers.{assertedOf, timerLevel, linesOf, registerData, eventData}
+use Rattle.chip_answers.specs.Answers.{assertedOf, timerLevel, linesOf, registerData, eventData, registerFresh, eventFresh}
 use Rattle.chip_device.specs.Device.{freshDevice}
 use Rattle.chip_refusals.specs.Rows.{registerAbove15, forbiddenRead, forbiddenCommand, writeNotModelled}
 use Rattle.chip_refusals.specs.Rows.{settingNotModelled, acknowledgedUnasserted}
@@ -39,6 +39,6 @@ unfolding Receivers.computing Transmitters.computing hasBit weightOf byteOf divi
     transmitterEffect receiverEffect transmitterEnabling receiverEnabling sideCommanded commandFeed frontAt countedOf
     clockedWith inFrontClocks.clockedOf levelsMoved sideWritten acrWritten sharedWritten registerWritten sideRead
     sharedRead registerRead frontData frontStepped receivedOf shownOf assertedOf timerLevel linesOf registerData
-    eventData freshDevice registerAbove15 forbiddenRead forbiddenCommand writeNotModelled settingNotModelled
+    eventData registerFresh eventFresh freshDevice registerAbove15 forbiddenRead forbiddenCommand writeNotModelled settingNotModelled
     acknowledgedUnasserted firstOf takenOf numberOf refusalLines stepOf after
 computing = true

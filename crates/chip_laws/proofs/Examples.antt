@@ -63,14 +63,14 @@ darkLines = record { irq = false; txda = false; txdb = false; op = 0 }
 
 -- "Refused: data 0, the state as given"
 abbrev pub refused : ℕ → Device → Answer
-refused n d = record { number = n; byte = 0; lines = idleLines false; state = d }
+refused n d = record { number = n; byte = 0; fresh = false; lines = idleLines false; state = d }
 
 pub record Examples : Type 0 where
   -- MR1 19: 8 data bits, no parity
-  pub accepted : stepOf freshDevice (Write 0 19) ≡ record { number = 0; byte = 0; lines = idleLines false; state = withMode 19 }
+  pub accepted : stepOf freshDevice (Write 0 19) ≡ record { number = 0; byte = 0; fresh = false; lines = idleLines false; state = withMode 19 }
   -- "for 1, all lines 0", even where the event would mend it or another row applies
-  pub unsound-reset : stepOf broken ChipReset ≡ record { number = 1; byte = 0; lines = darkLines; state = broken }
-  pub unsound-read : stepOf broken (Read 16) ≡ record { number = 1; byte = 0; lines = darkLines; state = broken }
+  pub unsound-reset : stepOf broken ChipReset ≡ record { number = 1; byte = 0; fresh = false; lines = darkLines; state = broken }
+  pub unsound-read : stepOf broken (Read 16) ≡ record { number = 1; byte = 0; fresh = false; lines = darkLines; state = broken }
   pub read-16 : stepOf freshDevice (Read 16) ≡ refused 2 freshDevice
   pub write-16 : stepOf freshDevice (Write 16 0) ≡ refused 2 freshDevice
   pub read-2 : stepOf freshDevice (Read 2) ≡ refused 3 freshDevice
@@ -90,7 +90,7 @@ pub record Examples : Type 0 where
   pub opcr-12 : stepOf freshDevice (Write 13 12) ≡ refused 5 freshDevice
   pub unasserted : stepOf freshDevice Acknowledge ≡ refused 6 freshDevice
   -- "acknowledge then reads IVR and changes nothing"
-  pub asserted : stepOf asking Acknowledge ≡ record { number = 0; byte = 15; lines = idleLines true; state = asking }
+  pub asserted : stepOf asking Acknowledge ≡ record { number = 0; byte = 15; fresh = false; lines = idleLines true; state = asking }
 
 pub examples : Examples
 unfolding computing

@@ -25,7 +25,7 @@ use Rattle.chip_device.specs.Device.{isSoundOf, shownA, shownB, deviceLines}
 use Rattle.chip_step.specs.Chip.{takenOf, numberOf, refusalLines, refusedOf, acceptedOf, stepOf}
 use Rattle.chip_refusals.specs.Rows.{acknowledgedUnasserted}
 use Rattle.chip_refusals.specs.Refusals.{firstOf}
-use Rattle.chip_laws.specs.Lists.{listIsSound, listShownA, listShownB, listLines, listNext, listByte, listUnasserted, listNumber, listRefused, ListAnswer, listStepOf, listsOf, seenOf, allSeen, listAllSeen, SameAnswers}
+use Rattle.chip_laws.specs.Lists.{listIsSound, listShownA, listShownB, listLines, listNext, listByte, listFresh, listUnasserted, listNumber, listRefused, ListAnswer, listStepOf, listsOf, seenOf, allSeen, listAllSeen, SameAnswers}
 use Rattle.chip_laws.proofs.Laws.Lists.{status-held, sound-held, fed-held}
 use Rattle.chip_laws.specs.Table.{row}
 use Rattle.chip_laws.proofs.Table.{table}
@@ -84,6 +84,10 @@ unfolding listByte takenOf
 same-byte d e h =
     rw (same-a d h, same-b d h, fed-held (d .a) (frontStepped (d .front) e .a) (h .a), fed-held (d .b) (frontStepped (d .front) e .b) (h .b))
 
+same-fresh : (d : Device) (e : Event) → Rooms d → listFresh (listsOf d) e ≡ takenOf d e .fresh
+unfolding listFresh takenOf
+same-fresh d e h = rw (fed-held (d .a) (frontStepped (d .front) e .a) (h .a), fed-held (d .b) (frontStepped (d .front) e .b) (h .b))
+
 same-number : (d : Device) (e : Event) → Rooms d → listNumber (listsOf d) e ≡ numberOf d e
 unfolding listNumber numberOf firstOf
 same-number d e h = rw (same-sound d h, same-unasserted d e h, same-next d e h, same-sound (takenOf d e .state) (taken-rooms d e h))
@@ -103,7 +107,7 @@ same-step : (d : Device) (e : Event) → isSoundOf d ≡ true → listed (stepOf
 unfolding listStepOf listRefused stepOf refusalLines
 same-step d e s =
     let h : Rooms d = device-rooms d s in
-    rw (same-number d e h, same-byte d e h, same-next d e h, same-lines d h, same-lines (takenOf d e .state) (taken-rooms d e h))
+    rw (same-number d e h, same-byte d e h, same-fresh d e h, same-next d e h, same-lines d h, same-lines (takenOf d e .state) (taken-rooms d e h))
     (pick-ap listed (eqb (numberOf d e) 0) (acceptedOf (takenOf d e)) (refusedOf d (numberOf d e)))
 
 -- by row 7 where it is accepted

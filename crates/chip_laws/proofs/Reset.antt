@@ -13,7 +13,7 @@ use Rattle.chip_laws.proofs.Computing.{computing}
 
 -- the whole answer
 pub reset : (d : Device) → isSoundOf d ≡ true
-    → stepOf d ChipReset ≡ record { number = 0; byte = 0; lines = idleLines false; state = resetAt (d .front .inputs .levels) }
+    → stepOf d ChipReset ≡ record { number = 0; byte = 0; fresh = false; lines = idleLines false; state = resetAt (d .front .inputs .levels) }
 unfolding computing
 reset d s = accepts d ChipReset (rw s) refl
 

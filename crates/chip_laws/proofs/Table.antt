@@ -167,6 +167,7 @@ table =
       free = step-free;
       taken = step-taken;
       silent = λ d e h. ap (λ (x : Answer). x .byte) (step-refused d e h);
+      stale = λ d e h. ap (λ (x : Answer). x .fresh) (step-refused d e h);
       unaltered = λ d e h. ap (λ (x : Answer). x .state) (step-refused d e h);
       lines = λ d e h. ap (λ (x : Answer). x .lines) (step-refused d e h);
     }
@@ -175,11 +176,12 @@ table =
 
 table-refused : (step : Step) → Table step → (d : Device) (e : Event) → (step d e .number ≡ 0 → ⊥) → step d e ≡ refusedOf d (step d e .number)
 unfolding refusalLines
-table-refused step h d e n = go (step d e) (h .silent d e n) (h .lines d e n) (h .unaltered d e n)
+table-refused step h d e n = go (step d e) (h .silent d e n) (h .stale d e n) (h .lines d e n) (h .unaltered d e n)
   where
-    go : (x : Answer) → x .byte ≡ 0 → x .lines ≡ refusalLines d (x .number) → x .state ≡ d → x ≡ refusedOf d (x .number)
-    go x b l s =
-        let z : record { number = x .number; byte = x .byte; lines = x .lines; state = x .state } ≡ refusedOf d (x .number) = rw (b, l, s) in
+    go : (x : Answer) → x .byte ≡ 0 → x .fresh ≡ false → x .lines ≡ refusalLines d (x .number) → x .state ≡ d → x ≡ refusedOf d (x .number)
+    go x b f l s =
+        let z : record { number = x .number; byte = x .byte; fresh = x .fresh; lines = x .lines; state = x .state } ≡ refusedOf d (x .number) =
+        rw (b, f, l, s) in
         z
 
 -- "a second answer fitting the same words is proved equal": a step that meets the table is this one

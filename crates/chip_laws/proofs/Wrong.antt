@@ -63,10 +63,10 @@ isTick = which false (λ n. false) false false false true
 -- ---- an answer with another part ----
 
 abbrev pub withLines : Answer → Lines → Answer
-withLines x lines = record { number = x .number; byte = x .byte; lines = lines; state = x .state }
+withLines x lines = record { number = x .number; byte = x .byte; fresh = x .fresh; lines = lines; state = x .state }
 
 abbrev pub withState : Answer → Device → Answer
-withState x d = record { number = x .number; byte = x .byte; lines = x .lines; state = d }
+withState x d = record { number = x .number; byte = x .byte; fresh = x .fresh; lines = x .lines; state = d }
 
 -- what a refusal gives instead
 abbrev pub refusing : (Device → Event → Answer → Answer) → Step
@@ -105,7 +105,7 @@ refusedDarkens = refusing (λ d e x. withLines x noLines)
 pub no-refusedDarkens : Table refusedDarkens → ⊥
 unfolding linesOf freshDevice frontAt freshSide pick
 no-refusedDarkens h =
-    let x : refusedDarkens freshDevice (Read 16) ≡ record { number = 2; byte = 0; lines = noLines; state = freshDevice } = rw (examples .read-16) in
+    let x : refusedDarkens freshDevice (Read 16) ≡ record { number = 2; byte = 0; fresh = false; lines = noLines; state = freshDevice } = rw (examples .read-16) in
     let z : noLines ≡ deviceLines freshDevice = rw x at (h .lines freshDevice (Read 16) (rw x (omega arith))) in
     true≢false (sym (ap (λ (l : Lines). l .txda) z))
 
@@ -117,7 +117,7 @@ pub no-unsoundLit : Table unsoundLit → ⊥
 unfolding linesOf freshDevice frontAt freshSide pick
 no-unsoundLit h =
     let lit : Lines = deviceLines broken in
-    let x : unsoundLit broken ChipReset ≡ record { number = 1; byte = 0; lines = lit; state = broken } = rw (examples .unsound-reset) in
+    let x : unsoundLit broken ChipReset ≡ record { number = 1; byte = 0; fresh = false; lines = lit; state = broken } = rw (examples .unsound-reset) in
     let z : lit ≡ noLines = rw x at (h .lines broken ChipReset (rw x (omega arith))) in
     true≢false (ap (λ (l : Lines). l .txda) z)
 
@@ -129,19 +129,19 @@ pub no-refusedActs : Table refusedActs → ⊥
 unfolding takenOf frontStepped registerRead sideRead freshDevice frontAt freshSide pick
 no-refusedActs h =
     let d : Device = takenOf freshDevice (Read 0) .state in
-    let x : refusedActs freshDevice (Write 0 128) ≡ record { number = 5; byte = 0; lines = idleLines false; state = d } = rw (examples .mr1-128) in
+    let x : refusedActs freshDevice (Write 0 128) ≡ record { number = 5; byte = 0; fresh = false; lines = idleLines false; state = d } = rw (examples .mr1-128) in
     let z : d ≡ freshDevice = rw x at (h .unaltered freshDevice (Write 0 128) (rw x (omega arith))) in
     true≢false (ap (λ (d : Device). d .front .a .moved) z)
 
 -- "data 0": a refused acknowledge gives IVR
 abbrev pub leavesByte : Step
-leavesByte = refusing (λ d e x. record { number = x .number; byte = takenOf d e .byte; lines = x .lines; state = x .state })
+leavesByte = refusing (λ d e x. record { number = x .number; byte = takenOf d e .byte; fresh = x .fresh; lines = x .lines; state = x .state })
 
 pub no-leavesByte : Table leavesByte → ⊥
 unfolding takenOf eventData freshDevice frontAt pick
 no-leavesByte h =
     let d : Device = freshDevice in
-    let x : leavesByte d Acknowledge ≡ record { number = 6; byte = 15; lines = idleLines false; state = d } = rw (examples .unasserted) in
+    let x : leavesByte d Acknowledge ≡ record { number = 6; byte = 15; fresh = false; lines = idleLines false; state = d } = rw (examples .unasserted) in
     let z : _≡_ {A = ℕ} 15 0 = rw x at (h .silent d Acknowledge (rw x (omega arith))) in
     omega arith
 
@@ -251,7 +251,7 @@ unfolding after freshDevice frontAt freshSide formatOf pick
 no-fifthFlag h = true≢false (sym (h freshDevice (Tick ∷ []) refl))
 
 abbrev pub takesFifth : Device → Event → Taken
-takesFifth d e = pick (isTick e) (record { state = broken; byte = 0 }) (takenOf d e)
+takesFifth d e = pick (isTick e) (record { state = broken; byte = 0; fresh = false }) (takenOf d e)
 
 pub no-takesFifth : KeepsSound takesFifth → ⊥
 unfolding firstOf acknowledgedUnasserted registerAbove15 forbiddenRead forbiddenCommand settingNotModelled freshDevice frontAt freshSide formatOf pick

@@ -30,7 +30,7 @@ highPins = refusing (λ d e x. pick (eqb (x .number) 1) (withLines x (record { i
 no-highPins : Dark highPins → ⊥
 unfolding pick
 no-highPins h =
-    let x : highPins broken ChipReset ≡ record { number = 1; byte = 0; lines = record { irq = false; txda = false; txdb = false; op = 255 }; state = broken } =
+    let x : highPins broken ChipReset ≡ record { number = 1; byte = 0; fresh = false; lines = record { irq = false; txda = false; txdb = false; op = 255 }; state = broken } =
     rw (examples .unsound-reset)
     in
     let z : _≡_ {A = ℕ} 255 0 = ap (λ (l : Lines). l .op) (rw x at (h broken ChipReset (rw x))) in

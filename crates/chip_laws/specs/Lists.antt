@@ -36,7 +36,7 @@ use Rattle.events.specs.declared.events.Event.{Event}
 use Rattle.events.specs.declared.events.Event.the-variants.{ChipReset, Read, Write, Acknowledge, Pins, Tick}
 use Rattle.front_events.specs.FrontEvents.{frontStepped}
 use Rattle.chip_answers.specs.declared.answers.Lines.{Lines}
-use Rattle.chip_answers.specs.Answers.{assertedOf, linesOf, noLines, eventData}
+use Rattle.chip_answers.specs.Answers.{assertedOf, linesOf, noLines, eventData, eventFresh}
 use Rattle.chip_device.specs.declared.device.Device.{Device}
 use Rattle.chip_step.specs.declared.chip.Answer.{Answer}
 use Rattle.chip_device.specs.Device.{isSoundOf}
@@ -57,6 +57,7 @@ pub record ListReceiver : Type 0 where
 pub record ListFed : Type 0 where
   pub receiver : ListReceiver
   pub byte : ℕ
+  pub fresh : Bool
 
 abbrev pub freshList : ListReceiver
 freshList = record { sampler = hunting false; held = []; overrun = false; sums = noMarks; change = false; last = 0 }
@@ -155,9 +156,9 @@ listEnabling r Enables = listDropped r
 listEnabling r Disables = listDropped r
 
 -- "A read takes the oldest and moves the waiting one up; reading an empty queue repeats the last byte read (0 after a
--- chip reset) and takes nothing."
+-- chip reset) and takes nothing." Order 1: "fresh exactly when RxRDY was set before it".
 unfoldable pub listRead : ListReceiver → List Character → ListFed
-listRead r [] = record { receiver = r; byte = r .last }
+listRead r [] = record { receiver = r; byte = r .last; fresh = false }
 listRead r (c ∷ h) =
     record {
       receiver =
@@ -170,14 +171,18 @@ listRead r (c ∷ h) =
             last = c .byte;
           };
       byte = c .byte;
+      fresh = true;
     }
 
+abbrev pub listUnread : ListReceiver → ListFed
+listUnread r = record { receiver = r; byte = 0; fresh = false }
+
 unfoldable pub listFedOf : ListReceiver → Feed → ListFed
-listFedOf r Feeds.Nothing = record { receiver = r; byte = 0 }
-listFedOf r (Feeds.Pulse level f) = record { receiver = listAnswered r (sampleOf (r .sampler) level f); byte = 0 }
-listFedOf r (Feeds.Command e t) = record { receiver = listEnabling (listEffect r e) t; byte = 0 }
+listFedOf r Feeds.Nothing = listUnread r
+listFedOf r (Feeds.Pulse level f) = listUnread (listAnswered r (sampleOf (r .sampler) level f))
+listFedOf r (Feeds.Command e t) = listUnread (listEnabling (listEffect r e) t)
 listFedOf r Feeds.Read = listRead r (r .held)
-listFedOf r Feeds.ChipReset = record { receiver = freshList; byte = 0 }
+listFedOf r Feeds.ChipReset = listUnread freshList
 
 -- "RxRDY: queue not empty. FFULL: three in the queue."
 abbrev pub listStatus : ListReceiver → Bool → Status
@@ -207,6 +212,7 @@ pub record ListDevice : Type 0 where
 pub record Seen : Type 0 where
   pub number : ℕ
   pub byte : ℕ
+  pub fresh : Bool
   pub lines : Lines
 
 pub record ListAnswer : Type 0 where
@@ -235,6 +241,11 @@ listByte d e =
     let h : Handed = frontStepped (d .front) e in
     eventData (d .front) (listShownA d) (listShownB d) (listFedOf (d .a) (h .a) .byte) (listFedOf (d .b) (h .b) .byte) e
 
+unfoldable pub listFresh : ListDevice → Event → Bool
+listFresh d e =
+    let h : Handed = frontStepped (d .front) e in
+    eventFresh (listFedOf (d .a) (h .a) .fresh) (listFedOf (d .b) (h .b) .fresh) e
+
 unfoldable pub listUnasserted : ListDevice → Event → Bool
 listUnasserted d ChipReset = false
 listUnasserted d (Read n) = false
@@ -252,13 +263,16 @@ listNumber d e =
 
 unfoldable pub listRefused : ListDevice → ℕ → ListAnswer
 listRefused d n =
-    record { seen = record { number = n; byte = 0; lines = pick (eqb n 1) noLines (listLines d) }; state = d }
+    record {
+      seen = record { number = n; byte = 0; fresh = false; lines = pick (eqb n 1) noLines (listLines d) };
+      state = d;
+    }
 
 unfoldable pub listStepOf : ListDevice → Event → ListAnswer
 listStepOf d e =
     pick (eqb (listNumber d e) 0)
     (record {
-      seen = record { number = 0; byte = listByte d e; lines = listLines (listNext d e) };
+      seen = record { number = 0; byte = listByte d e; fresh = listFresh d e; lines = listLines (listNext d e) };
       state = listNext d e;
     })
     (listRefused d (listNumber d e))
@@ -281,7 +295,7 @@ abbrev pub listsOf : Device → ListDevice
 listsOf d = record { front = d .front; a = listOf (d .a); b = listOf (d .b) }
 
 abbrev pub seenOf : Answer → Seen
-seenOf x = record { number = x .number; byte = x .byte; lines = x .lines }
+seenOf x = record { number = x .number; byte = x .byte; fresh = x .fresh; lines = x .lines }
 
 -- what is seen of a list of events
 unfoldable pub allSeen : Step → Device → List Event → List Seen

@@ -45,6 +45,8 @@ pub record Table (step : Step) : Type 0 where
   pub taken : (d : Device) (e : Event) → step d e .number ≡ 0 → step d e ≡ acceptedOf (takenOf d e)
   -- "Refused: data 0, the state as given, lines as that state drives them (for 1, all lines 0)."
   pub silent : (d : Device) (e : Event) → (step d e .number ≡ 0 → ⊥) → step d e .byte ≡ 0
+  -- order 1: "a refused read or any other event is stale"
+  pub stale : (d : Device) (e : Event) → (step d e .number ≡ 0 → ⊥) → step d e .fresh ≡ false
   pub unaltered : (d : Device) (e : Event) → (step d e .number ≡ 0 → ⊥) → step d e .state ≡ d
   pub lines : (d : Device) (e : Event) → (step d e .number ≡ 0 → ⊥)
       → step d e .lines ≡ pick (eqb (step d e .number) 1) noLines (deviceLines d)

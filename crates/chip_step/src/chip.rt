@@ -1,6 +1,7 @@
 // One event, one answer.
 use chip_answers::Lines;
 use chip_answers::event_data;
+use chip_answers::event_fresh;
 use chip_answers::no_lines;
 use chip_device::Device;
 use chip_device::device_lines;
@@ -14,19 +15,21 @@ ghost use mathlib.Core.Path.{_≡_};
 ghost use Rattle.chip_step.specs.Chip.{takenOf, refusalLines, refusedOf, acceptedOf, stepOf};
 
 // "The answer has the number, the data byte (0 where none is read), IRQ (1 when asserted), TxDA, TxDB, the OP0-OP7
-// levels and the new state."
+// levels and the new state."; order 1: "The receive buffer read shall also say fresh or stale".
 #[repr(C)]
 pub struct Answer {
     pub number: u8,
     pub byte: u8,
+    pub fresh: bool,
     pub lines: Lines,
     pub state: Device,
 }
 
-// The new state, before it is looked at, and the data byte.
+// The new state, before it is looked at, the data byte, and whether it is fresh.
 pub struct Taken {
     pub state: Device,
     pub byte: u8,
+    pub fresh: bool,
 }
 
 // What an event does where no row refuses it: the front is stepped, and each receiver takes what it is handed.
@@ -44,6 +47,7 @@ fn take_event(device: Device, event: Event) -> Taken
     let shown_a = show_channel(device.front.a, device.a);
     let shown_b = show_channel(device.front.b, device.b);
     let byte = event_data(device.front, shown_a, shown_b, a.byte, b.byte, event);
+    let fresh = event_fresh(a.fresh, b.fresh, event);
     Taken {
         state: Device {
             front: front,
@@ -51,6 +55,7 @@ fn take_event(device: Device, event: Event) -> Taken
             b: receiver_b,
         },
         byte: byte,
+        fresh: fresh,
     }
 }
 
@@ -64,7 +69,7 @@ fn refusal_lines(device: Device, number: u8) -> Lines
     device_lines(device)
 }
 
-// "Refused: data 0, the state as given"
+// "Refused: data 0, the state as given"; order 1: "a refused read .. is stale".
 fn refuse(device: Device, number: u8) -> Answer
     ensures { λ r. ⌜ r ≡ refusedOf device number ⌝ }
 {
@@ -72,6 +77,7 @@ fn refuse(device: Device, number: u8) -> Answer
     Answer {
         number: number,
         byte: 0,
+        fresh: false,
         lines: lines,
         state: device,
     }
@@ -84,6 +90,7 @@ fn accept(taken: Taken) -> Answer
     Answer {
         number: 0,
         byte: taken.byte,
+        fresh: taken.fresh,
         lines: device_lines(state),
         state: state,
     }

@@ -1,4 +1,5 @@
 -- A wrong answer, shut out by the definition: a routine that gave it would not meet its contract. Assumes nothing.
+use mathlib.Core.Bool.{false}
 use mathlib.Core.Path.{_≡_}
 use native.Mathlib.Omega.{arith}
 use Rattle.chip_answers.specs.Answers.{noLines}
@@ -10,7 +11,7 @@ use Rattle.chip_ticks.specs.Ticks.{ticked}
 use Rattle.chip_laws.proofs.Computing.{computing}
 
 abbrev first : Answer
-first = record { number = 0; byte = 0; lines = noLines; state = freshDevice }
+first = record { number = 0; byte = 0; fresh = false; lines = noLines; state = freshDevice }
 
 -- a tick is an event of its own: "acknowledge while IRQ is not asserted" is answered 6, and a tick is not
 no-acknowledgesForTicks : ((a : Answer) → stepOf (a .state) Acknowledge .number ≡ ticked 1 a .number) → ⊥

@@ -12,6 +12,7 @@ pub mod Counted
 pub mod Pulses
 pub mod Ones
 pub mod Delivery
+pub mod Fresh
 pub mod Received
 pub mod Starts
 pub mod Transmits

@@ -3,7 +3,8 @@
 -- those still held, are exactly these characters in order, each once, less those overrun removed by document 01's rule
 -- and those a receiver or chip reset dropped. At most four are ever held." The list may hold refused events too: they
 -- do nothing (Reached). The ledger is written from the events, the clock pulses (Pulses) and a sampler run alone (crate
--- sampler_laws), and what was read and what is held from the answers. Assumes nothing.
+-- sampler_laws), and what was read and what is held from the answers. Order 1: "Demand 3 counts fresh reads, the same
+-- reads as before": these are by the flag; that they are the same is `Fresh`. Assumes nothing.
 use Prim.Native.Nat.{ℕ, zero, suc, _/_, _%_}
 use mathlib.Core.Path.{_≡_}
 use mathlib.Core.Bool.{Bool, false, not, _&&_}
@@ -123,11 +124,11 @@ marksShown c levels ch es =
       parity = statusBit c levels ch (characterErrors ch es) 5;
     }
 
--- "read while the ready bit was set": the answer's data byte, where a read of SR would have shown bit 0 just before,
--- under the marks shown then
+-- "read while the ready bit was set", and order 1: "Demand 3 counts fresh reads": the data byte of an answer that says
+-- fresh, under the marks shown just before
 abbrev pub readAt : Chip → ℕ → Channel → List Event → List Character
 readAt c levels ch es =
-    pick (statusBit c levels ch es 0)
+    pick (c levels es (Read (registerOf ch 3)) .fresh)
     (record { byte = shows c levels es (registerOf ch 3); marks = marksShown c levels ch es } ∷ []) []
 
 -- an event that reads the channel's buffer
@@ -144,7 +145,7 @@ readFrom c levels ch before [] = []
 readFrom c levels ch before (e ∷ es) =
     pick (readsBuffer ch e) (readAt c levels ch before) [] ++ readFrom c levels ch (andThen before e) es
 
--- those still held: what so many reads more would give, while the ready bit is set
+-- those still held: what so many reads more would give, while they say fresh
 unfoldable pub heldFor : ℕ → Chip → ℕ → Channel → List Event → List Character
 heldFor zero c levels ch es = []
 heldFor (suc k) c levels ch es = readAt c levels ch es ++ heldFor k c levels ch (andThen es (Read (registerOf ch 3)))

@@ -11,6 +11,7 @@ pub mod Counter
 pub mod Counted
 pub mod Pulses
 pub mod Delivery
+pub mod Fresh
 pub mod Received
 pub mod Starts
 pub mod Sending

@@ -13,7 +13,7 @@ use Rattle.feed.specs.declared.feed.Feed.the-variants as Feeds
 use Rattle.receiver.specs.Receiver.{fedOf}
 use Rattle.receiver.specs.Delivery as Receivers
 use Rattle.feed.specs.declared.feed.Enabling.the-variants.{Stays, Enables, Disables}
-use Rattle.receiver_state.specs.Arrivals.{withSampler}
+use Rattle.receiver_state.specs.Arrivals.{withSampler, freshReceiver}
 use Rattle.front.specs.declared.front.Front.{Front}
 use Rattle.front.specs.declared.front.Handed.{Handed}
 use Rattle.front.specs.Front.{withSides, withRegisters}
@@ -23,7 +23,7 @@ use Rattle.events.specs.declared.events.Event.{Event}
 use Rattle.events.specs.declared.events.Event.the-variants.{ChipReset, Read, Write, Acknowledge, Pins, Tick}
 use Rattle.front_events.specs.FrontEvents.{frontStepped}
 use Rattle.chip_answers.specs.declared.answers.Lines.{Lines}
-use Rattle.chip_answers.specs.Answers.{eventData}
+use Rattle.chip_answers.specs.Answers.{eventData, eventFresh}
 use Rattle.chip_device.specs.declared.device.Device.{Device}
 use Rattle.chip_device.specs.Device.{shownA, shownB, deviceLines}
 use Rattle.chip_refusals.specs.Rows.{registerAbove15, forbiddenRead, forbiddenCommand, settingNotModelled, acknowledgedUnasserted}
@@ -70,7 +70,7 @@ constant x levels es e = x
 
 -- "refusing all": as though every register were above 15
 abbrev pub refusesAll : Chip
-refusesAll = constant (record { number = 2; byte = 0; lines = idleLines false })
+refusesAll = constant (record { number = 2; byte = 0; fresh = false; lines = idleLines false })
 
 -- "doing nothing": each event is answered as the first one after a chip reset is
 abbrev pub doesNothing : Chip
@@ -89,6 +89,7 @@ takenWith feed d e =
     record {
       state = record { front = h .front; a = feed (d .a) (h .a) .receiver; b = feed (d .b) (h .b) .receiver };
       byte = eventData (d .front) (shownA d) (shownB d) (feed (d .a) (h .a) .byte) (feed (d .b) (h .b) .byte) e;
+      fresh = eventFresh (feed (d .a) (h .a) .fresh) (feed (d .b) (h .b) .fresh) e;
     }
 
 -- rows 2 to 6: whether a state is sound is not asked, else such a chip would stop at its first fault
@@ -108,8 +109,18 @@ abbrev pub readKeeps : Receivers.Step
 readKeeps r Feeds.Nothing = fedOf r Feeds.Nothing
 readKeeps r (Feeds.Pulse level f) = fedOf r (Feeds.Pulse level f)
 readKeeps r (Feeds.Command e t) = fedOf r (Feeds.Command e t)
-readKeeps r Feeds.Read = record { receiver = r; byte = fedOf r Feeds.Read .byte }
+readKeeps r Feeds.Read = record { receiver = r; byte = fedOf r Feeds.Read .byte; fresh = fedOf r Feeds.Read .fresh }
 readKeeps r Feeds.ChipReset = fedOf r Feeds.ChipReset
+
+-- "reading an empty queue .. takes nothing": it drops the character being put together
+abbrev pub staleTakes : Receivers.Step
+staleTakes r Feeds.Nothing = fedOf r Feeds.Nothing
+staleTakes r (Feeds.Pulse level f) = fedOf r (Feeds.Pulse level f)
+staleTakes r (Feeds.Command e t) = fedOf r (Feeds.Command e t)
+staleTakes r Feeds.Read =
+    let x : Fed = fedOf r Feeds.Read in
+    pick (x .fresh) x (record { receiver = withSampler r (freshReceiver .sampler); byte = x .byte; fresh = x .fresh })
+staleTakes r Feeds.ChipReset = fedOf r Feeds.ChipReset
 
 -- "there every receiver or chip reset is a disable, even where the same command enables again": a character goes on over such a command
 abbrev pub resetGoesOn : Receivers.Step
@@ -118,7 +129,7 @@ resetGoesOn r (Feeds.Pulse level f) = fedOf r (Feeds.Pulse level f)
 resetGoesOn r (Feeds.Command e Stays) = fedOf r (Feeds.Command e Stays)
 resetGoesOn r (Feeds.Command e Enables) =
     let x : Fed = fedOf r (Feeds.Command e Enables) in
-    record { receiver = withSampler (x .receiver) (r .sampler); byte = x .byte }
+    record { receiver = withSampler (x .receiver) (r .sampler); byte = x .byte; fresh = x .fresh }
 resetGoesOn r (Feeds.Command e Disables) = fedOf r (Feeds.Command e Disables)
 resetGoesOn r Feeds.Read = fedOf r Feeds.Read
 resetGoesOn r Feeds.ChipReset = fedOf r Feeds.ChipReset
@@ -137,12 +148,12 @@ abbrev pub changed : (Event → Seen → Seen) → Chip
 changed f levels es e = f e (chipOf stepOf levels es e)
 
 abbrev withLines : Seen → Lines → Seen
-withLines x lines = record { number = x .number; byte = x .byte; lines = lines }
+withLines x lines = record { number = x .number; byte = x .byte; fresh = x .fresh; lines = lines }
 
 -- a read of register n answers another byte
 abbrev readsAs : (ℕ → Bool) → (ℕ → ℕ) → Event → Seen → Seen
 readsAs is f ChipReset x = x
-readsAs is f (Read n) x = pick (is n) (record { number = x .number; byte = f (x .byte); lines = x .lines }) x
+readsAs is f (Read n) x = pick (is n) (record { number = x .number; byte = f (x .byte); fresh = x .fresh; lines = x .lines }) x
 readsAs is f (Write n byte) x = x
 readsAs is f Acknowledge x = x
 readsAs is f (Pins levels) x = x
@@ -186,7 +197,7 @@ neverAsserts = changed (λ e x. withLines x (record { irq = false; txda = x .lin
 
 -- 6: "acknowledge while IRQ is not asserted": it is accepted
 abbrev pub acknowledgesAlways : Chip
-acknowledgesAlways = changed (λ e x. pick (isAcknowledge e) (record { number = 0; byte = x .byte; lines = x .lines }) x)
+acknowledgesAlways = changed (λ e x. pick (isAcknowledge e) (record { number = 0; byte = x .byte; fresh = x .fresh; lines = x .lines }) x)
 
 -- "Start bit 0": TxD is high always
 abbrev pub neverSends : Chip
@@ -200,20 +211,20 @@ showsBits = changed (λ e x. withLines x (record { irq = x .lines .irq; txda = x
 
 -- an event that does nothing
 abbrev pub idlesAt : (Device → Event → Bool) → Step
-idlesAt is d e = pick (is d e) (record { number = stepOf d e .number; byte = stepOf d e .byte; lines = deviceLines d; state = d }) (stepOf d e)
+idlesAt is d e = pick (is d e) (record { number = stepOf d e .number; byte = stepOf d e .byte; fresh = stepOf d e .fresh; lines = deviceLines d; state = d }) (stepOf d e)
 
 -- an event that leads to another state
 abbrev pub leadsTo : (Device → Event → Device → Device) → Step
 leadsTo f d e =
     let x : Answer = stepOf d e in
     let next : Device = f d e (x .state) in
-    record { number = x .number; byte = x .byte; lines = deviceLines next; state = next }
+    record { number = x .number; byte = x .byte; fresh = x .fresh; lines = deviceLines next; state = next }
 
 -- a read that shows another byte of this state
 abbrev pub shownBy : (Device → ℕ → ℕ → ℕ) → Step
 shownBy f d e =
     let x : Answer = stepOf d e in
-    which x (λ n. record { number = x .number; byte = f d n (x .byte); lines = x .lines; state = x .state }) x x x x e
+    which x (λ n. record { number = x .number; byte = f d n (x .byte); fresh = x .fresh; lines = x .lines; state = x .state }) x x x x e
 
 -- "13 .. OPCR": a write does nothing
 abbrev pub ignoresOpcr : Step

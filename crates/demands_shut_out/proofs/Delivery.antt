@@ -2,13 +2,12 @@
 -- receiver A with the 1X clock of its pin and five data bits, seven pulses a character. Assumes nothing.
 use Prim.Native.Nat.{ℕ}
 use mathlib.Core.Path.{_≡_, refl, sym, _∙_, ap}
-use mathlib.Core.Bool.{true, false, true≢false}
+use mathlib.Core.Bool.{Bool, true, false, true≢false}
 use mathlib.Core.List.{List, [], _∷_, _++_, map}
 use native.Mathlib.Omega.{arith}
-use lib.ListN.{getD, replicate}
+use lib.ListN.{length, getD, replicate}
 use Rattle.format.specs.Format.{formatOf}
 use Rattle.frame.specs.Levels.{frame}
-use Rattle.bytes.specs.Bytes.{hasBit}
 use Rattle.character.specs.declared.character.Character.{Character}
 use Rattle.character.specs.declared.character.Marks.{Marks}
 use Rattle.character.specs.Character.{noCharacter}
@@ -24,7 +23,7 @@ use Rattle.demands.specs.Chip.{Chip, Channel, chipOf, statusBit}
 use Rattle.demands.specs.Chip.Channel.{A, B}
 use Rattle.demands.specs.Delivery.{linesAt, fateOf, ledgerFrom, ledger, readFrom, heldFor, held, Demand3}
 use Rattle.demands.specs.Cases.{heard}
-use Rattle.demands_shut_out.proofs.Chips.{constant, refusesAll, doesNothing, idlesLater, chipWith, readKeeps, resetGoesOn, hidesOverrun, heardAt}
+use Rattle.demands_shut_out.proofs.Chips.{constant, refusesAll, doesNothing, idlesLater, chipWith, readKeeps, staleTakes, resetGoesOn, hidesOverrun, heardAt}
 use Rattle.demands_shut_out.proofs.Chips.{hidesMarks, alwaysReady}
 use Rattle.demands.proofs.Computing.{computing}
 
@@ -76,6 +75,10 @@ five = four ++ arrive (5 ∷ [])
 abbrev restarted : List Event
 restarted = line [] ++ heard (false ∷ []) ++ Write 2 33 ∷ heard (replicate 6 true)
 
+-- a one is being put together while the empty buffer is read
+abbrev readBetween : List Event
+readBetween = line [] ++ heard (false ∷ true ∷ false ∷ []) ++ Read 3 ∷ heard (false ∷ false ∷ false ∷ true ∷ [])
+
 -- a break
 abbrev breaks : List Event
 breaks = line [] ++ heard (replicate 7 false)
@@ -83,6 +86,7 @@ breaks = line [] ++ heard (replicate 7 false)
 -- ---- what they make ----
 
 record Computed : Type 0 where
+  due-nothing : due A [] ≡ []
   due-two : due A two ≡ 1 ∷ 2 ∷ []
   due-none : due B two ≡ []
   due-five : due A five ≡ 1 ∷ 2 ∷ 3 ∷ 5 ∷ []
@@ -91,7 +95,9 @@ record Computed : Type 0 where
   due-status : due A (two ++ Read 1 ∷ []) ≡ 1 ∷ 2 ∷ []
   due-read : due A (two ++ Read 3 ∷ []) ≡ 1 ∷ 2 ∷ []
   due-restarted : due A restarted ≡ []
-  had-constant : (x : Seen) → hasBit (x .byte) 0 ≡ false → had (constant x) A two ≡ []
+  due-between : due A readBetween ≡ 1 ∷ []
+  had-constant : (x : Seen) → x .fresh ≡ false → had (constant x) A two ≡ []
+  had-four : (x : Seen) → x .fresh ≡ true → length (had (constant x) A []) ≡ 4
   had-doesNothing : had doesNothing A two ≡ []
   had-idlesLater : had idlesLater A two ≡ []
   had-keepsNothing : had (chipWith keepsNothing) A two ≡ []
@@ -102,6 +108,7 @@ record Computed : Type 0 where
   had-readsTwo : had (chipWith readsTwo) A (two ++ Read 3 ∷ []) ≡ 1 ∷ []
   had-readKeeps : had (chipWith readKeeps) A (two ++ Read 3 ∷ []) ≡ 1 ∷ 1 ∷ 1 ∷ 1 ∷ 1 ∷ []
   had-resetGoesOn : had (chipWith resetGoesOn) A restarted ≡ 31 ∷ []
+  had-staleTakes : had (chipWith staleTakes) A readBetween ≡ []
   had-crossed : had (chipOf crossed) B two ≡ 1 ∷ 1 ∷ 1 ∷ 1 ∷ []
   overran : ledger A 255 five .overran ≡ true
   overran-hidesOverrun : statusBit hidesOverrun 255 A five 4 ≡ false
@@ -113,6 +120,7 @@ computed : Computed
 unfolding computing linesAt fateOf ledgerFrom readFrom heldFor heard dropsArriving keepsWaiting readsTwo disableEmpties keepsNothing
 computed =
     record {
+      due-nothing = refl;
       due-two = refl;
       due-none = refl;
       due-five = refl;
@@ -121,7 +129,9 @@ computed =
       due-status = refl;
       due-read = refl;
       due-restarted = refl;
+      due-between = refl;
       had-constant = λ x e. rw e;
+      had-four = λ x e. rw e;
       had-doesNothing = refl;
       had-idlesLater = refl;
       had-keepsNothing = refl;
@@ -132,6 +142,7 @@ computed =
       had-readsTwo = refl;
       had-readKeeps = refl;
       had-resetGoesOn = refl;
+      had-staleTakes = refl;
       had-crossed = refl;
       overran = refl;
       overran-hidesOverrun = refl;
@@ -142,12 +153,16 @@ computed =
 
 -- ---- shut out by the bytes ----
 
--- the ready bit is clear after four reads, so that it always is; but two arrive
+-- where it says stale, nothing was read and two arrived; where it says fresh, four are held before anything arrives
 pub no-constant : (x : Seen) → Demand3 (constant x) → ⊥
-no-constant x h = differs A two 0 (computed .due-two) (computed .had-constant x (h 255 A [] .four)) (λ e. omega arith) h
+no-constant x h = go (x .fresh) refl
+  where
+    go : (t : Bool) → x .fresh ≡ t → ⊥
+    go false e = differs A two 0 (computed .due-two) (computed .had-constant x e) (λ z. omega arith) h
+    go true e = omega (arith, ap length (sym (computed .due-nothing) ∙ due-had h A []) ∙ computed .had-four x e)
 
 pub no-refusesAll : Demand3 refusesAll → ⊥
-no-refusesAll = no-constant (record { number = 2; byte = 0; lines = idleLines false })
+no-refusesAll = no-constant (record { number = 2; byte = 0; fresh = false; lines = idleLines false })
 
 pub no-doesNothing : Demand3 doesNothing → ⊥
 no-doesNothing = differs A two 0 (computed .due-two) (computed .had-doesNothing) (λ e. omega arith)
@@ -170,6 +185,10 @@ no-dropsArriving = differs A five 3 (computed .due-five) (computed .had-dropsArr
 -- "A status read that takes a character."
 pub no-statusTakes : Demand3 (chipOf statusTakes) → ⊥
 no-statusTakes = differs A (two ++ Read 1 ∷ []) 0 (computed .due-status) (computed .had-statusTakes) (λ e. omega arith)
+
+-- "reading an empty queue .. takes nothing"
+pub no-staleTakes : Demand3 (chipWith staleTakes) → ⊥
+no-staleTakes = differs A readBetween 0 (computed .due-between) (computed .had-staleTakes) (λ e. omega arith)
 
 -- "Disable drops the character being put together and ends the wait for a break's end, no more."
 pub no-disableEmpties : Demand3 (chipWith disableEmpties) → ⊥

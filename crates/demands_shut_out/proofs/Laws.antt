@@ -42,7 +42,7 @@ use Rattle.demands.proofs.Computing.{computing}
 
 -- 3: "read of register 2 or 10": a read of 2 is accepted
 abbrev readsCommand : Chip
-readsCommand = changed (λ e x. pick (isReadOf 2 e) (record { number = 0; byte = x .byte; lines = x .lines }) x)
+readsCommand = changed (λ e x. pick (isReadOf 2 e) (record { number = 0; byte = x .byte; fresh = x .fresh; lines = x .lines }) x)
 
 -- "A write while disabled is ignored": it is refused
 abbrev refusesDisabled : Step

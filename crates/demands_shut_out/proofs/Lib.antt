@@ -5,6 +5,7 @@ pub mod Counter
 pub mod Modes
 pub mod Received
 pub mod Delivery
+pub mod Fresh
 pub mod Sending
 pub mod ReadBack
 pub mod Cases

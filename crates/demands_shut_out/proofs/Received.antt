@@ -33,7 +33,7 @@ use Rattle.demands.proofs.Computing.{computing}
 
 -- "break change set": it never is
 abbrev noChange : Receivers.Step
-noChange r e = record { receiver = withChange (fedOf r e .receiver) false; byte = fedOf r e .byte }
+noChange r e = record { receiver = withChange (fedOf r e .receiver) false; byte = fedOf r e .byte; fresh = fedOf r e .fresh }
 
 -- a receiver with other sums, and another last byte read
 abbrev withSums : Receiver → Marks → ℕ → Receiver
@@ -41,11 +41,11 @@ withSums r sums last = record { sampler = r .sampler; queue = r .queue; overrun 
 
 -- "Block: the marks, each bit ORed, of all that became oldest": none
 abbrev noSums : Receivers.Step
-noSums r e = let x : Receiver = fedOf r e .receiver in record { receiver = withSums x noMarks (x .last); byte = fedOf r e .byte }
+noSums r e = let x : Receiver = fedOf r e .receiver in record { receiver = withSums x noMarks (x .last); byte = fedOf r e .byte; fresh = fedOf r e .fresh }
 
 -- "reading an empty queue repeats the last byte read": it answers 0
 abbrev forgetsLast : Receivers.Step
-forgetsLast r e = let x : Receiver = fedOf r e .receiver in record { receiver = withSums x (x .sums) 0; byte = fedOf r e .byte }
+forgetsLast r e = let x : Receiver = fedOf r e .receiver in record { receiver = withSums x (x .sums) 0; byte = fedOf r e .byte; fresh = fedOf r e .fresh }
 
 -- the same: it repeats the byte once, and answers 0 from then on
 abbrev repeatsOnce : Step

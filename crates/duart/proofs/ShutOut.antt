@@ -1,7 +1,7 @@
 -- Wrong answers, each shut out by a definition: a routine that gave it would not meet its contract. Assumes nothing.
 use Prim.Native.Nat.{ℕ}
 use mathlib.Core.Path.{_≡_, ap}
-use mathlib.Core.Bool.{true, true≢false}
+use mathlib.Core.Bool.{true, false, true≢false}
 use mathlib.Core.List.{List}
 use native.Mathlib.Omega.{arith}
 use lib.ListN.{getD, replicate}
@@ -22,7 +22,7 @@ ticked = stepOf freshDevice (eventOf (record { kind = 5; reg = 0; byte = 0 })) .
 
 -- "The answer has the number, the data byte (0 where none is read)"
 no-byteForNumber : ((a : Answer) → a .byte ≡ seenIn a .number) → ⊥
-no-byteForNumber h = omega (arith, h (record { number = 2; byte = 0; lines = noLines; state = freshDevice }))
+no-byteForNumber h = omega (arith, h (record { number = 2; byte = 0; fresh = false; lines = noLines; state = freshDevice }))
 
 no-everyDeviceSound : ((d : Device) → true ≡ isSoundOf d) → ⊥
 unfolding computing

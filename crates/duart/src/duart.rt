@@ -36,7 +36,7 @@ fn seen_in(answer: Answer) -> Seen
     ensures { λ r. ⌜ r ≡ seenIn answer ⌝ }
 {
     let lines = answer.lines;
-    seen_of(answer.number, answer.byte, lines)
+    seen_of(answer.number, answer.byte, answer.fresh, lines)
 }
 
 // "A fresh device is the state after a chip reset with all pins high."

@@ -20,6 +20,7 @@ onlyA =
     record {
       number = 0;
       byte = 0;
+      fresh = false;
       lines = record { irq = false; txda = true; txdb = false; op = 255 };
       state = freshDevice;
     }

@@ -5,8 +5,18 @@ use crate::script::example;
 fn inch() {
     example(
         b"INCH \"gets a character from the channel receiver\", three times (002, 6.4.2.2)",
-        b"w0,19 w0,7 w1,187 w2,5 t48 r1,12 a65 a66 q1,1 r3,65 a67 q1,1 r3,66 q1,1 r3,67 r1,12 ",
+        b"w0,19 w0,7 w1,187 w2,5 t48 r1,12 a65 a66 q1,1 r3,65 g1 a67 q1,1 r3,66 g1 q1,1 r3,67 g1 r1,12 g0 ",
         b"as the manual says",
+    );
+}
+
+// Order 1: without the wait for RxRDY an old character is read again, and the answer says so; and what a receiver
+// reset drops is not read.
+fn inch_unasked() {
+    example(
+        b"INCH without its wait: what is read again is stale, and so after a receiver reset (order 1)",
+        b"w0,19 w0,7 w1,187 w2,5 t48 r3,0 g0 a65 r3,65 g1 r3,65 g0 a65 a66 r3,65 g1 w2,33 g0 r3,65 g0 t48 a67 r3,67 g1 r3,67 g0 ",
+        b"as order 1 says",
     );
 }
 
@@ -32,6 +42,7 @@ fn both() {
 
 pub fn examples() {
     inch();
+    inch_unasked();
     outch();
     both();
 }

@@ -20,6 +20,7 @@ fn look_at(bench: Bench) -> Look {
     Look {
         number: bench.answer.number,
         byte: bench.answer.byte,
+        fresh: bench.answer.fresh,
         irq: bench.answer.lines.irq,
         txda: bench.answer.lines.txda,
         txdb: bench.answer.lines.txdb,

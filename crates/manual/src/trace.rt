@@ -70,6 +70,7 @@ fn print_line(seen: Look, word: Word) {
         b'i' => print_level(b"IRQ", seen.irq),
         b'd' => print_level(b"TxDA", seen.txda),
         b'e' => print_level(b"TxDB", seen.txdb),
+        b'g' => print_level(b"fresh", seen.fresh),
         _ => {
             print(b"OP=");
             print_byte(seen.op);

@@ -15,6 +15,7 @@
 //   q register,mask    the register is read until one of these bits is set
 //   i, d, e level      IRQ, TxDA, TxDB has this level
 //   o levels           OP0-OP7 have these levels
+//   g level            what was answered last said fresh, 1, or stale, 0 (order 1)
 use events::Event;
 
 pub struct Word {
@@ -29,6 +30,7 @@ pub struct Word {
 pub struct Look {
     pub number: u8,
     pub byte: u8,
+    pub fresh: bool,
     pub irq: bool,
     pub txda: bool,
     pub txdb: bool,
@@ -93,7 +95,7 @@ pub fn is_event(letter: u8) -> bool {
 }
 
 pub fn is_line(letter: u8) -> bool {
-    (letter == b'i') | (letter == b'd') | (letter == b'e') | (letter == b'o')
+    (letter == b'i') | (letter == b'd') | (letter == b'e') | (letter == b'o') | (letter == b'g')
 }
 
 pub fn event_of(word: Word) -> Event {
@@ -138,6 +140,7 @@ fn line_agrees(seen: Look, word: Word) -> bool {
         b'i' => seen.irq == (word.last == 1),
         b'd' => seen.txda == (word.last == 1),
         b'e' => seen.txdb == (word.last == 1),
+        b'g' => seen.fresh == (word.last == 1),
         _ => seen.op == last_byte(word),
     }
 }

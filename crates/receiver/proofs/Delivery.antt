@@ -46,6 +46,15 @@ unfolding shownMarks oldestMarks pick
 shown-held r = held-marks (r .queue)
 
 -- what a read gives is the oldest itself, byte and marks
+-- order 1: "fresh exactly when RxRDY was set before it", of any receiver
+pub read-fresh : (r : Receiver) → fedOf r Read .fresh ≡ statusOf r false .ready
+unfolding fedOf readOf pick
+read-fresh r = go (isEmptyOf (r .queue)) refl
+  where
+    go : (t : Bool) → isEmptyOf (r .queue) ≡ t → fedOf r Read .fresh ≡ statusOf r false .ready
+    go true e = rw e
+    go false e = rw e
+
 pub given-held : (r : Receiver) → given fedOf statusOf r Read ≡ take 1 (heldOf (r .queue))
 unfolding given fedOf readOf shownMarks oldestMarks pick
 given-held r = go (isEmptyOf (r .queue)) refl
@@ -214,6 +223,7 @@ delivery r es =
     record {
       all = sym (all-after opened es);
       fates = tells-fates (h .tells);
+      same = λ k. read-fresh (after fedOf freshReceiver (take k es));
       four = λ k. four-counted (after fedOf freshReceiver (take k es)) (room-after freshReceiver (take k es) (omega arith));
       overrun = λ block. sym (h .overran);
       marks = shown-held (after fedOf freshReceiver es) ∙ sym (tells-marks (h .tells));

@@ -3,7 +3,7 @@
 -- Assumes nothing.
 use Prim.Native.Nat.{ℕ, _≤_}
 use mathlib.Core.Path.{_≡_, refl, sym, ap}
-use mathlib.Core.Bool.{true, false, true≢false}
+use mathlib.Core.Bool.{Bool, true, false, true≢false}
 use mathlib.Core.List.{List, [], _∷_, _++_}
 use native.Mathlib.Omega.{arith}
 use lib.ListN.{length, getD, replicate}
@@ -33,7 +33,7 @@ use Rattle.receiver.proofs.Computing.{computing}
 
 -- what a feed leaves, with another queue
 abbrev queueInstead : Fed → Queue → Fed
-queueInstead d q = record { receiver = withQueue (d .receiver) q; byte = d .byte }
+queueInstead d q = record { receiver = withQueue (d .receiver) q; byte = d .byte; fresh = d .fresh }
 
 -- 8 data bits, no parity
 abbrev eight : Format
@@ -155,9 +155,22 @@ neverReady r block = record { marks = statusOf r block .marks; overrun = r .over
 
 pub no-neverReady : Delivers fedOf neverReady → ⊥
 unfolding computing
-no-neverReady h =
+no-neverReady h = true≢false (h freshReceiver (line (1 ∷ [])) .same 200)
+
+-- ---- order 1: reads that never say fresh, and reads that always do ----
+
+abbrev saysFresh : Bool → Step
+saysFresh x r e = record { receiver = fedOf r e .receiver; byte = fedOf r e .byte; fresh = x }
+
+pub no-neverFresh : Delivers (saysFresh false) statusOf → ⊥
+unfolding computing
+no-neverFresh h =
     let z : _≡_ {A = ℕ} 1 0 = ap length (h freshReceiver (line (1 ∷ []) ++ (Read ∷ [])) .fates) in
     omega arith
+
+pub no-alwaysFresh : Delivers (saysFresh true) statusOf → ⊥
+unfolding computing
+no-alwaysFresh h = true≢false (h freshReceiver [] .same 0)
 
 -- ---- a receiver that does nothing ----
 
@@ -183,7 +196,8 @@ no-idles-read h =
 -- ---- break change set by every feed ----
 
 abbrev changesAlways : Step
-changesAlways r e = record { receiver = withChange (fedOf r e .receiver) true; byte = fedOf r e .byte }
+changesAlways r e =
+    record { receiver = withChange (fedOf r e .receiver) true; byte = fedOf r e .byte; fresh = fedOf r e .fresh }
 
 pub no-changesAlways-read : ReadsBack changesAlways statusOf → ⊥
 unfolding computing

@@ -203,14 +203,14 @@ unfoldable pub after : Step → Receiver → List Feed → Receiver
 after step r [] = r
 after step r (e ∷ es) = after step (step r e .receiver) es
 
--- demand 3: "the program read while the ready bit was set": the byte that the read answers, under the marks that SR
--- shows before it in character mode
+-- demand 3: "the program read while the ready bit was set", as order 1 counts it: "Demand 3 counts fresh reads": the byte
+-- that a read answers which says fresh, under the marks that SR shows before it in character mode
 unfoldable pub given : Step → Show → Receiver → Feed → List Character
 given step show r Nothing = []
 given step show r (Pulse level f) = []
 given step show r (Command e t) = []
 given step show r Read =
-    pick (show r false .ready) (record { byte = step r Read .byte; marks = show r false .marks } ∷ []) []
+    pick (step r Read .fresh) (record { byte = step r Read .byte; marks = show r false .marks } ∷ []) []
 given step show r ChipReset = []
 
 unfoldable pub reads : Step → Show → Receiver → List Feed → List Character
@@ -231,6 +231,10 @@ pub record Delivery (step : Step) (show : Show) (r : Receiver) (es : List Feed) 
   pub fates : map known (live (ledger es .entries))
       ≡ fatedBy WasRead (reads step show (step r ChipReset .receiver) es)
       ++ fatedBy Held (heldOf (after step (step r ChipReset .receiver) es .queue))
+  -- order 1: "the same reads as before": a read says fresh exactly where the ready bit was set before it
+  pub same : (k : ℕ)
+      → step (after step (step r ChipReset .receiver) (take k es)) Read .fresh
+      ≡ show (after step (step r ChipReset .receiver) (take k es)) false .ready
   -- "At most four are ever held.": after any number of the feeds
   pub four : (k : ℕ) → after step (step r ChipReset .receiver) (take k es) .queue .count ≤ 4
   -- SR bit 4 is set exactly when a fate Overrun came since the last command 4 or chip reset

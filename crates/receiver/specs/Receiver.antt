@@ -1,4 +1,5 @@
 -- What a feed does to a receiver: a pulse, a command, a read, a chip reset. Assumes nothing.
+use mathlib.Core.Bool.{true, false}
 use Rattle.format.specs.Pick.{pick}
 use Rattle.character.specs.Character.{orMarks}
 use Rattle.queue.specs.Queue.{isEmptyOf, oldestOf, tookOf}
@@ -19,17 +20,17 @@ oldestRead r =
     (oldestOf (r .queue) .byte)
 
 -- "A read takes the oldest and moves the waiting one up; reading an empty queue repeats the last byte read (0 after a
--- chip reset) and takes nothing."
+-- chip reset) and takes nothing." Order 1: "fresh exactly when RxRDY was set before it", and "RxRDY: queue not empty".
 unfoldable pub readOf : Receiver → Fed
 readOf r =
-    pick (isEmptyOf (r .queue)) (record { receiver = r; byte = r .last })
-    (record { receiver = oldestRead r; byte = oldestOf (r .queue) .byte })
+    pick (isEmptyOf (r .queue)) (record { receiver = r; byte = r .last; fresh = false })
+    (record { receiver = oldestRead r; byte = oldestOf (r .queue) .byte; fresh = true })
 
 -- ---- any feed ----
 
--- "the data byte (0 where none is read)"
+-- "the data byte (0 where none is read)"; order 1: "any other event is stale"
 abbrev pub unread : Receiver → Fed
-unread r = record { receiver = r; byte = 0 }
+unread r = record { receiver = r; byte = 0; fresh = false }
 
 -- "Command: .. bits 6-4 first, then .. 1-0 (receiver)."
 unfoldable pub fedOf : Receiver → Feed → Fed

@@ -13,10 +13,11 @@ use receiver_state::pulse;
 ghost use mathlib.Core.Path.{_≡_};
 ghost use Rattle.receiver.specs.Receiver.{oldestRead, readOf, unread, fedOf};
 
-// The receiver after a feed, and the byte that a read answers, 0 where none is read.
+// The receiver after a feed, and what a read answers: the byte, 0 where none is read, and whether it is fresh.
 pub struct Fed {
     pub receiver: Receiver,
     pub byte: u8,
+    pub fresh: bool,
 }
 
 // The oldest is taken: its byte is the last byte read, and the next one, if any, becomes oldest.
@@ -33,7 +34,8 @@ fn read_oldest(receiver: Receiver) -> Receiver
     r
 }
 
-// "reading an empty queue repeats the last byte read (0 after a chip reset) and takes nothing"
+// "reading an empty queue repeats the last byte read (0 after a chip reset) and takes nothing"; order 1: "fresh
+// exactly when RxRDY was set before it".
 fn read(receiver: Receiver) -> Fed
     ensures { λ r. ⌜ r ≡ readOf receiver ⌝ }
 {
@@ -41,22 +43,25 @@ fn read(receiver: Receiver) -> Fed
         return Fed {
             receiver: receiver,
             byte: receiver.last,
+            fresh: false,
         };
     }
     let top = oldest(receiver.queue);
     Fed {
         receiver: read_oldest(receiver),
         byte: top.byte,
+        fresh: true,
     }
 }
 
-// A feed that reads nothing answers 0.
+// A feed that reads nothing answers 0; order 1: "any other event is stale".
 fn no_read(receiver: Receiver) -> Fed
     ensures { λ r. ⌜ r ≡ unread receiver ⌝ }
 {
     Fed {
         receiver: receiver,
         byte: 0,
+        fresh: false,
     }
 }
 

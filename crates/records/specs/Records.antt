@@ -1,5 +1,6 @@
 -- An event and its answer as records. Assumes nothing.
 use Prim.Native.Nat.{ℕ}
+use mathlib.Core.Bool.{Bool}
 use lib.Dec.{eqb}
 use Rattle.format.specs.Pick.{pick}
 use Rattle.chip_answers.specs.declared.answers.Lines.{Lines}
@@ -21,7 +22,15 @@ eventOf r =
     (pick (eqb (r .kind) 5) Tick (Read 255))))))
 
 -- "The answer has the number, the data byte (0 where none is read), IRQ (1 when asserted), TxDA, TxDB, the OP0-OP7
--- levels"
-abbrev pub seenOf : ℕ → ℕ → Lines → Seen
-seenOf number byte l =
-    record { number = number; «data» = byte; irq = l .irq; txda = l .txda; txdb = l .txdb; op = l .op }
+-- levels"; order 1: "The receive buffer read shall also say fresh or stale"
+abbrev pub seenOf : ℕ → ℕ → Bool → Lines → Seen
+seenOf number byte fresh l =
+    record {
+      number = number;
+      «data» = byte;
+      fresh = fresh;
+      irq = l .irq;
+      txda = l .txda;
+      txdb = l .txdb;
+      op = l .op;
+    }

@@ -16,11 +16,12 @@ pub struct EventRecord {
 }
 
 // "The answer has the number, the data byte (0 where none is read), IRQ (1 when asserted), TxDA, TxDB, the OP0-OP7
-// levels": all of it but the new state.
+// levels": all of it but the new state. Order 1: "The receive buffer read shall also say fresh or stale".
 #[repr(C)]
 pub struct Seen {
     pub number: u8,
     pub data: u8,
+    pub fresh: bool,
     pub irq: bool,
     pub txda: bool,
     pub txdb: bool,
@@ -44,12 +45,13 @@ pub fn event_of(event: EventRecord) -> Event
     }
 }
 
-pub fn seen_of(number: u8, byte: u8, lines: Lines) -> Seen
-    ensures { λ r. ⌜ r ≡ seenOf number byte lines ⌝ }
+pub fn seen_of(number: u8, byte: u8, fresh: bool, lines: Lines) -> Seen
+    ensures { λ r. ⌜ r ≡ seenOf number byte fresh lines ⌝ }
 {
     Seen {
         number: number,
         data: byte,
+        fresh: fresh,
         irq: lines.irq,
         txda: lines.txda,
         txdb: lines.txdb,

@@ -38,6 +38,7 @@ fn print_answer(answer: Answer) -> Device {
         lines.txda,
         lines.txdb,
         lines.op,
+        answer.fresh,
         &mut space,
     );
     io::write_all(STDOUT_FILENO, &space[..length]);

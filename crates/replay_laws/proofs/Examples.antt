@@ -165,7 +165,8 @@ unfolding computing
 late-comment = refl
 
 -- `0 13 1 0 1 255` and a line end
-seen : seenText 0 13 true false true 255 ≡ 48 ∷ 32 ∷ 49 ∷ 51 ∷ 32 ∷ 49 ∷ 32 ∷ 48 ∷ 32 ∷ 49 ∷ 32 ∷ 50 ∷ 53 ∷ 53 ∷ 10 ∷ []
+seen : seenText 0 13 true false true 255 true
+    ≡ 48 ∷ 32 ∷ 49 ∷ 51 ∷ 32 ∷ 49 ∷ 32 ∷ 48 ∷ 32 ∷ 49 ∷ 32 ∷ 50 ∷ 53 ∷ 53 ∷ 32 ∷ 49 ∷ 10 ∷ []
 unfolding digitOf decimalOf pick
 seen = refl
 

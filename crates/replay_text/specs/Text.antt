@@ -18,12 +18,12 @@ abbrev pub flagText : Bool → List ℕ
 flagText flag = digitOf flag ∷ []
 
 -- the line of an answer, in decimal: a byte has at most three places; 32 is a space, 10 ends the line
-abbrev pub seenText : ℕ → ℕ → Bool → Bool → Bool → ℕ → List ℕ
-seenText number byte irq txda txdb op =
+abbrev pub seenText : ℕ → ℕ → Bool → Bool → Bool → ℕ → Bool → List ℕ
+seenText number byte irq txda txdb op fresh =
     decimalOf 3 number ++ 32 ∷ [] ++ decimalOf 3 byte ++ 32 ∷ [] ++ flagText irq ++ 32 ∷ [] ++ flagText txda ++ 32 ∷ []
     ++ flagText txdb ++ 32 ∷ []
-    ++ decimalOf 3 op
-    ++ 10 ∷ []
+    ++ decimalOf 3 op ++ 32 ∷ []
+    ++ flagText fresh ++ 10 ∷ []
 
 -- `error line `
 abbrev pub errorWords : List ℕ

@@ -51,17 +51,18 @@ fn flag_digit(flag: bool) -> u8
     if flag { 49 } else { 48 }
 }
 
-// Puts 1 or 0, and then a space.
-fn put_flag(flag: bool, at: usize, space: &mut [u8]) -> usize
+// Puts 1 or 0, and then a separator.
+fn put_flag(flag: bool, separator: u8, at: usize, space: &mut [u8]) -> usize
     requires { ⌜ at + 2 ≤ length (now space) ⌝ }
     ensures within { λ r. ⌜ r ≡ at + 2 ⌝ }
-    ensures text { λ r. ⌜ take r (now (space .exit)) ≡ take at (now (space .entry)) ++ flagText flag ++ 32 ∷ [] ⌝ }
+    ensures text { λ r. ⌜ take r (now (space .exit)) ≡ take at (now (space .entry)) ++ flagText flag ++ separator ∷ [] ⌝ }
+    ensures fits { λ r. ⌜ r ≤ length (now (space .exit)) ⌝ }
 {
     let next = put(flag_digit(flag), at, space);
-    put(32, next, space)
+    put(separator, next, space)
 }
 
-// The line of an answer: number, data byte, IRQ, TxDA, TxDB and OP, in decimal.
+// The line of an answer: number, data byte, IRQ, TxDA, TxDB and OP, in decimal, and whether the byte is fresh.
 pub fn write_seen(
     number: u8,
     byte: u8,
@@ -69,17 +70,19 @@ pub fn write_seen(
     txda: bool,
     txdb: bool,
     op: u8,
+    fresh: bool,
     space: &mut [u8; 32],
 ) -> usize
     ensures within { λ r. ⌜ Within r (now (space .exit)) ⌝ }
-    ensures text { λ r. ⌜ take r (now (space .exit)) ≡ seenText number byte irq txda txdb op ⌝ }
+    ensures text { λ r. ⌜ take r (now (space .exit)) ≡ seenText number byte irq txda txdb op fresh ⌝ }
 {
     let after_number = put_byte(number, 32, 0, space);
     let after_byte = put_byte(byte, 32, after_number, space);
-    let after_irq = put_flag(irq, after_byte, space);
-    let after_txda = put_flag(txda, after_irq, space);
-    let after_txdb = put_flag(txdb, after_txda, space);
-    put_byte(op, 10, after_txdb, space)
+    let after_irq = put_flag(irq, 32, after_byte, space);
+    let after_txda = put_flag(txda, 32, after_irq, space);
+    let after_txdb = put_flag(txdb, 32, after_txda, space);
+    let after_op = put_byte(op, 32, after_txdb, space);
+    put_flag(fresh, 10, after_op, space)
 }
 
 // `error line `

@@ -1,83 +1,32 @@
 //! What the scripts reached: a run in which no character was ever lost says nothing about overruns, so a
 //! whole run fails where one of these counts is zero.
 
+use crate::sights::{Sight, SIGHTS};
 use duart::device::{Character, Device, Receiver, Timer, Transmitter};
 use duart::{EventRecord, Seen};
 
-/// A sight: what is counted.
-#[derive(Clone, Copy, Debug, PartialEq, Eq)]
-pub enum Sight {
-    ChipResets,
-    Reads,
-    Writes,
-    Acknowledges,
-    PinEvents,
-    Ticks,
-    UnknownKinds,
-    RefusedBy2,
-    RefusedBy3,
-    RefusedBy4,
-    RefusedBy5,
-    RefusedBy6,
-    CharactersReceived,
-    WithBreakMark,
-    WithFramingMark,
-    WithParityMark,
-    Overruns,
-    FalseStarts,
-    NewStartsAfterLowStops,
-    BreakEndsReceived,
-    ReadsOfAnEmptyQueue,
-    IrqAssertions,
-    VectorsRead,
-    FramesSentAt16X,
-    FramesSentAt1X,
-    BreaksSent,
-    HighBitsAfterBreaks,
-    CounterTerminals,
-    TimerTerminals,
-}
-
-/// Each sight by its name, in the order of the enum.
-const SIGHTS: [(Sight, &str); 29] = [
-    (Sight::ChipResets, "chip resets"),
-    (Sight::Reads, "reads"),
-    (Sight::Writes, "writes"),
-    (Sight::Acknowledges, "acknowledges"),
-    (Sight::PinEvents, "pin events"),
-    (Sight::Ticks, "ticks"),
-    (Sight::UnknownKinds, "events of unknown kind"),
-    (Sight::RefusedBy2, "refused by 2"),
-    (Sight::RefusedBy3, "refused by 3"),
-    (Sight::RefusedBy4, "refused by 4"),
-    (Sight::RefusedBy5, "refused by 5"),
-    (Sight::RefusedBy6, "refused by 6"),
-    (Sight::CharactersReceived, "characters received"),
-    (Sight::WithBreakMark, "with the break mark"),
-    (Sight::WithFramingMark, "with the framing mark"),
-    (Sight::WithParityMark, "with the parity mark"),
-    (Sight::Overruns, "overruns"),
-    (Sight::FalseStarts, "false starts"),
-    (Sight::NewStartsAfterLowStops, "starts after a low stop"),
-    (Sight::BreakEndsReceived, "ends of received breaks"),
-    (Sight::ReadsOfAnEmptyQueue, "reads of an empty queue"),
-    (Sight::IrqAssertions, "IRQ assertions"),
-    (Sight::VectorsRead, "vectors read"),
-    (Sight::FramesSentAt16X, "frames sent at 16X"),
-    (Sight::FramesSentAt1X, "frames sent at 1X"),
-    (Sight::BreaksSent, "breaks sent"),
-    (Sight::HighBitsAfterBreaks, "high bits after breaks"),
-    (Sight::CounterTerminals, "terminal counts, counter"),
-    (Sight::TimerTerminals, "terminal counts, timer"),
-];
-
+const CHIP_RESET: u8 = 0;
+const READ: u8 = 1;
+const WRITE: u8 = 2;
+const ACKNOWLEDGE: u8 = 3;
 const PIN_EVENT: u8 = 4;
 const TICK: u8 = 5;
 
-#[derive(Default)]
 pub struct Coverage {
     counts: [u64; SIGHTS.len()],
     irq: bool,
+    /// For A and B: a receiver reset dropped characters, and none has come since.
+    dropped: [bool; 2],
+}
+
+impl Default for Coverage {
+    fn default() -> Coverage {
+        Coverage {
+            counts: [0; SIGHTS.len()],
+            irq: false,
+            dropped: [false; 2],
+        }
+    }
 }
 
 impl Coverage {
@@ -108,14 +57,16 @@ impl Coverage {
         self.counts[sight as usize] += u64::from(so);
     }
 
-    /// A new script begins: a fresh chip does not assert IRQ.
+    /// A new script begins: a fresh chip does not assert IRQ, and nothing was dropped.
     pub fn begin(&mut self) {
         self.irq = false;
+        self.dropped = [false; 2];
     }
 
     /// One event: what it was, and what it did to the chip.
     pub fn see(&mut self, before: &Device, record: EventRecord, seen: Seen, after: &Device) {
         self.see_event(before, record, seen);
+        self.see_drops(before, record, after);
         self.note_if(seen.irq && !self.irq, Sight::IrqAssertions);
         self.irq = seen.irq;
         if matches!(record.kind, PIN_EVENT | TICK) {
@@ -139,11 +90,51 @@ impl Coverage {
             6 => self.note(Sight::RefusedBy6),
             _ => {}
         }
-        match (record.kind, record.reg) {
-            (1, 3) => self.note_if(before.a.queue.count == 0, Sight::ReadsOfAnEmptyQueue),
-            (1, 11) => self.note_if(before.b.queue.count == 0, Sight::ReadsOfAnEmptyQueue),
-            (3, _) => self.note_if(seen.number == 0, Sight::VectorsRead),
+        match record.kind {
+            READ => self.see_read(before, record.reg, seen),
+            ACKNOWLEDGE => self.note_if(seen.number == 0, Sight::VectorsRead),
             _ => {}
+        }
+    }
+
+    /// No other write than a receiver reset empties a queue.
+    fn see_drops(&mut self, before: &Device, record: EventRecord, after: &Device) {
+        let counts = |device: &Device| [device.a.queue.count, device.b.queue.count];
+        for (place, (held, left)) in counts(before).into_iter().zip(counts(after)).enumerate() {
+            let dropped = record.kind == WRITE && held > 0;
+            let kept = record.kind != CHIP_RESET && self.dropped[place];
+            self.dropped[place] = left == 0 && (dropped || kept);
+        }
+    }
+
+    fn see_read(&mut self, before: &Device, register: u8, seen: Seen) {
+        let held = [&before.a, &before.b].map(|receiver| receiver.queue.count > 0);
+        let refused = seen.number != 0;
+        match register {
+            3 => self.see_buffer_read(before, 0, seen),
+            11 => self.see_buffer_read(before, 1, seen),
+            1 => self.note_if(held[0], Sight::StatusReadsReady),
+            9 => self.note_if(held[1], Sight::StatusReadsReady),
+            _ => self.note_if(refused && held != [false; 2], Sight::RefusedReadsReady),
+        }
+    }
+
+    /// What a read could be fresh by, and is not: order 1 goes by RxRDY of its own channel and by nothing else. A's place
+    /// is 0 and B's is 1.
+    fn see_buffer_read(&mut self, before: &Device, place: usize, seen: Seen) {
+        let side = [&before.front.a, &before.front.b][place];
+        let receivers = [&before.a, &before.b];
+        let (receiver, other) = (receivers[place], receivers[1 - place]);
+        if seen.fresh {
+            let isr_bit_clear = (side.mr1 >> 6) & 1 == 1 && receiver.queue.count < 3;
+            self.note(Sight::FreshReads);
+            self.note_if(seen.data == receiver.last, Sight::FreshLastByte);
+            self.note_if(isr_bit_clear, Sight::FreshUnderFfull);
+            self.note_if(!side.enabled, Sight::FreshWhileDisabled);
+        } else {
+            self.note(Sight::StaleReads);
+            self.note_if(other.queue.count > 0, Sight::StaleOtherReady);
+            self.note_if(self.dropped[place], Sight::StaleAfterDrops);
         }
     }
 
@@ -203,15 +194,8 @@ fn newest(receiver: &Receiver) -> Character {
 
 #[cfg(test)]
 mod tests {
-    use super::{Coverage, SIGHTS};
+    use super::{Coverage, Sight, SIGHTS};
     use duart::{Duart, Event};
-
-    #[test]
-    fn the_names_stand_in_the_order_of_the_enum() {
-        for (place, (sight, _)) in SIGHTS.iter().enumerate() {
-            assert_eq!(*sight as usize, place);
-        }
-    }
 
     #[test]
     fn a_refused_read_is_counted_as_such_and_all_else_is_missing() {
@@ -222,5 +206,33 @@ mod tests {
         coverage.see(&before, Event::Read(2).into(), seen, chip.device());
         assert_eq!(coverage.events(), 1);
         assert_eq!(coverage.missing().len(), SIGHTS.len() - 2);
+    }
+
+    #[test]
+    fn reads_are_counted_by_what_makes_them_fresh_or_stale() {
+        let mut device = *Duart::fresh().device();
+        device.a.queue.count = 2;
+        device.front.a.mr1 = 0x53;
+        let mut chip = Duart::from_device(device);
+        let mut coverage = Coverage::default();
+        let script = [
+            Event::Read(3),
+            Event::Read(11),
+            Event::Read(1),
+            Event::Read(2),
+            Event::Write(2, 0x20),
+            Event::Read(3),
+        ];
+        for event in script {
+            let before = *chip.device();
+            let seen = chip.step(event);
+            coverage.see(&before, event.into(), seen, chip.device());
+        }
+        let counted = &SIGHTS[Sight::FreshReads as usize..=Sight::StatusReadsReady as usize];
+        let counts: Vec<u64> = counted
+            .iter()
+            .map(|(sight, _)| coverage.of(*sight))
+            .collect();
+        assert_eq!(counts, [1, 1, 1, 1, 2, 1, 1, 1, 1]);
     }
 }

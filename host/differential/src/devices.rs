@@ -4,12 +4,14 @@
 use crate::drawing;
 use crate::generator::Generator;
 use crate::sound;
+use duart::device::Receiver;
 use duart::{Device, Duart, EventRecord, Seen};
 
 /// "for 1, all lines 0"
 const UNSOUND: Seen = Seen {
     number: 1,
     data: 0,
+    fresh: false,
     irq: false,
     txda: false,
     txdb: false,
@@ -23,6 +25,9 @@ pub struct Tally {
     pub unsound: u64,
     pub accepted: u64,
     pub refused: u64,
+    /// Accepted reads of a receive buffer.
+    pub fresh: u64,
+    pub stale: u64,
 }
 
 /// A device that was not treated as it should be.
@@ -91,6 +96,9 @@ fn try_event(device: Device, event: EventRecord, tally: &mut Tally) -> Result<()
     };
     tally.accepted += u64::from(seen.number == 0);
     tally.refused += u64::from(seen.number != 0);
+    let read = seen.number == 0 && buffer_read(&device, event).is_some();
+    tally.fresh += u64::from(read && seen.fresh);
+    tally.stale += u64::from(read && !seen.fresh);
     match fault {
         None => Ok(()),
         Some(why) => Err(Box::new(Failure {
@@ -105,7 +113,7 @@ fn try_event(device: Device, event: EventRecord, tally: &mut Tally) -> Result<()
 
 fn fault_when_unsound(device: &Device, seen: Seen, chip: &Duart) -> Option<&'static str> {
     if seen != UNSOUND {
-        Some("it is unsound, and the answer is not 1 with data and all lines 0")
+        Some("it is unsound, and the answer is not 1, stale, with data and all lines 0")
     } else if chip.device() != device {
         Some("it is unsound, and it was altered")
     } else {
@@ -131,7 +139,41 @@ fn fault_when_sound(
     } else if !chip.is_sound() || !sound::is_sound(chip.device()) {
         Some("it was sound, and the new state is not")
     } else {
-        None
+        fault_of_fresh(device, event, seen, chip)
+    }
+}
+
+/// The receiver whose buffer an event reads, if it does.
+fn buffer_read(device: &Device, event: EventRecord) -> Option<&Receiver> {
+    match (event.kind, event.reg) {
+        (1, 3) => Some(&device.a),
+        (1, 11) => Some(&device.b),
+        _ => None,
+    }
+}
+
+/// Order 1: "fresh exactly when RxRDY was set before it", and "a refused read or any other event is stale"; document 01:
+/// "reading an empty queue repeats the last byte read (0 after a chip reset) and takes nothing."
+fn fault_of_fresh(
+    device: &Device,
+    event: EventRecord,
+    seen: Seen,
+    chip: &Duart,
+) -> Option<&'static str> {
+    match buffer_read(device, event) {
+        None => seen
+            .fresh
+            .then_some("the event reads no receive buffer, and it is fresh"),
+        Some(receiver) if seen.fresh != (receiver.queue.count > 0) => {
+            Some("fresh is not what RxRDY was before the read")
+        }
+        Some(receiver) if !seen.fresh && seen.data != receiver.last => {
+            Some("the read is stale, and the byte is not the last one")
+        }
+        Some(_) if !seen.fresh && chip.device() != device => {
+            Some("the read is stale, and the device was altered")
+        }
+        Some(_) => None,
     }
 }
 
@@ -193,5 +235,6 @@ mod tests {
         let tally = run(1000, 1).unwrap_or_else(|failure| panic!("{}", failure.why));
         assert!(tally.sound > 200 && tally.unsound > 200);
         assert!(tally.accepted > 0 && tally.refused > 0);
+        assert!(tally.fresh > 0 && tally.stale > 0);
     }
 }

@@ -4,6 +4,6 @@
 use std::mem::size_of;
 
 const _: () = assert!(size_of::<duart::Device>() == 200);
-const _: () = assert!(size_of::<duart::Seen>() == 6);
+const _: () = assert!(size_of::<duart::Seen>() == 7);
 const _: () = assert!(size_of::<duart::EventRecord>() == 3);
 const _: () = assert!(size_of::<duart::FrameAnswer>() == 2);

@@ -1,5 +1,5 @@
 //! The differential test: the proved chip, through the archive's C interface, beside the independent model
-//! of document 01. `differential [EVENTS [SEED]]` runs so many events of random scripts, then random devices
+//! of document 01 and its orders. `differential [EVENTS [SEED]]` runs so many events of random scripts, then random devices
 //! and all frame requests, and exits with 1 at the first difference, which it prints so that the replay
 //! program can show it. From the fixed seed it also asks that the scripts reach all that coverage.rs counts.
 
@@ -17,6 +17,7 @@ mod rates;
 mod report;
 mod script;
 mod scripts;
+mod sights;
 mod sound;
 
 use coverage::Coverage;
@@ -59,6 +60,12 @@ fn run_devices(seed: u64) -> Result<String, ()> {
     println!("{:>10} unsound devices", tally.unsound);
     println!("{:>10} events on them accepted", tally.accepted);
     println!("{:>10} events on them refused", tally.refused);
+    println!("{:>10} fresh reads of them", tally.fresh);
+    println!("{:>10} stale reads of them", tally.stale);
+    if tally.fresh == 0 || tally.stale == 0 {
+        println!("no drawn device was read fresh, or none stale");
+        return Err(());
+    }
     Ok(format!("{DEVICES} devices"))
 }
 

@@ -1,4 +1,4 @@
-//! The two chips side by side: each event goes to both, and their answers are compared in all six fields.
+//! The two chips side by side: each event goes to both, and their answers are compared in all seven fields.
 
 use duart::{Device, Duart, EventRecord, Seen};
 
@@ -81,6 +81,7 @@ fn seen_of(seen: model::Seen) -> Seen {
     let model::Seen {
         number,
         data,
+        fresh,
         irq,
         txda,
         txdb,
@@ -89,6 +90,7 @@ fn seen_of(seen: model::Seen) -> Seen {
     Seen {
         number,
         data,
+        fresh,
         irq,
         txda,
         txdb,

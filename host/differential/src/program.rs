@@ -182,6 +182,19 @@ impl Script<'_> {
         Ok(())
     }
 
+    /// What a driver does that goes by fresh alone: it reads whatever the status is, more often than characters can be
+    /// held, and the receiver may have been disabled, or reset, with characters in it.
+    pub fn poll(&mut self, channel: Channel) -> Stepped {
+        if self.draws.flip() {
+            let command = self.draws.pick(&[0x02, 0x02, 0x20, 0x21]);
+            self.command(channel, command)?;
+        }
+        for _ in 0..self.draws.between(1, 6) {
+            self.read(channel.register(3))?;
+        }
+        Ok(())
+    }
+
     // ------------------------------------------------------------ what is refused, and what is anything
 
     fn refused(&mut self) -> Stepped {

@@ -50,16 +50,17 @@ fn print_shorter(events: &[EventRecord]) {
     }
 }
 
-/// As replay prints it.
+/// As replay prints it, fresh last.
 fn answer(seen: Seen) -> String {
     format!(
-        "{} {} {} {} {} {}",
+        "{} {} {} {} {} {} {}",
         seen.number,
         seen.data,
         u8::from(seen.irq),
         u8::from(seen.txda),
         u8::from(seen.txdb),
-        seen.op
+        seen.op,
+        u8::from(seen.fresh)
     )
 }
 
@@ -127,7 +128,7 @@ fn shortened(mut events: Vec<EventRecord>) -> Vec<EventRecord> {
 #[cfg(test)]
 mod tests {
     use super::{answer, lines};
-    use duart::{Duart, Event, EventRecord};
+    use duart::{Duart, Event, EventRecord, Seen};
 
     #[test]
     fn a_script_is_written_as_replay_reads_it() {
@@ -148,6 +149,11 @@ mod tests {
     #[test]
     fn an_answer_is_written_as_replay_prints_it() {
         let seen = Duart::fresh().step(Event::Read(12));
-        assert_eq!(answer(seen), "0 15 0 1 1 255");
+        assert_eq!(answer(seen), "0 15 0 1 1 255 0");
+        let fresh = Seen {
+            fresh: true,
+            ..seen
+        };
+        assert_eq!(answer(fresh), "0 15 0 1 1 255 1");
     }
 }

@@ -71,6 +71,10 @@ impl Script<'_> {
                 self.serve(channel)
             }
             42 => self.chip_reset(),
+            43..=45 => {
+                let channel = self.any_channel();
+                self.poll(channel)
+            }
             _ => self.disturb(),
         }
     }
@@ -109,6 +113,9 @@ impl Script<'_> {
             if self.draws.one_in(4) {
                 self.serve(channel)?;
             }
+        }
+        if self.draws.one_in(4) {
+            self.poll(channel)?;
         }
         Ok(())
     }

@@ -1,5 +1,6 @@
-//! The height gauge on channel A sends a byte at 9600 bits a second, 8 data bits, no parity, one stop bit; the program
-//! programs the chip, waits for the ready bit and reads the byte.
+//! The driver of the height gauge on channel A polls the receive buffer and adds up the offsets that are new. The canine that is
+//! made again: offsets are still in the receiver, one of them in its waiting place, when the program resets it and enables it
+//! again; then the new offset comes, and it is added once. 9600 bits a second, 8 data bits, no parity, one stop bit.
 
 use duart::{Duart, Event};
 
@@ -7,37 +8,57 @@ use duart::{Duart, Event};
 const TICKS_A_BIT: u32 = 384;
 const RXDA: u8 = 1 << 6;
 
-/// The gauge's side of the line: a start bit, the data lowest bit first, a stop bit.
-fn send(chip: &mut Duart, byte: u8) {
-    let bits = (u16::from(byte) << 1) | 0x200;
-    for bit in 0..10 {
-        let level = if (bits >> bit) & 1 == 1 { 0xff } else { 0xff & !RXDA };
-        chip.step(Event::Pins(level));
-        for _ in 0..TICKS_A_BIT {
-            chip.step(Event::Tick);
-        }
+/// The level of RxDA for one bit's time; every other pin is high.
+fn hold(chip: &mut Duart, high: bool) {
+    chip.step(Event::Pins(if high { 0xff } else { 0xff & !RXDA }));
+    for _ in 0..TICKS_A_BIT {
+        chip.step(Event::Tick);
     }
+}
+
+/// The gauge's side of the line: a start bit, the offset lowest bit first, a stop bit.
+fn send(chip: &mut Duart, offset: u8) {
+    let bits = (u16::from(offset) << 1) | 0x200;
+    for bit in 0..10 {
+        hold(chip, (bits >> bit) & 1 == 1);
+    }
+}
+
+fn write(chip: &mut Duart, register: u8, byte: u8) {
+    let seen = chip.step(Event::Write(register, byte));
+    assert_eq!(seen.number, 0, "the write of register {register} was refused");
+}
+
+/// The offsets that are new, polled for more often than there can be any. The byte does not tell an old one from a new one: two
+/// heights may be equal.
+fn poll(chip: &mut Duart) -> Vec<u8> {
+    let reads = (0..6).map(|_| chip.step(Event::Read(3)));
+    reads.filter(|seen| seen.fresh).map(|seen| seen.data).collect()
 }
 
 fn main() {
     let mut chip = Duart::fresh();
-    let program = [
-        (0, 0x13), // MR1A: 8 data bits, no parity
-        (0, 0x07), // MR2A: one stop bit
-        (1, 0xbb), // CSRA: code 11 for the receiver and the transmitter
-        (2, 0x01), // command: enable the receiver
-    ];
-    for (register, byte) in program {
-        let seen = chip.step(Event::Write(register, byte));
-        assert_eq!(seen.number, 0, "the write of register {register} was refused");
-    }
-    for _ in 0..TICKS_A_BIT {
-        chip.step(Event::Tick); // the receiver must see a high line first
-    }
+    write(&mut chip, 0, 0x13); // MR1A: 8 data bits, no parity
+    write(&mut chip, 0, 0x07); // MR2A: one stop bit
+    write(&mut chip, 1, 0xbb); // CSRA: code 11 for the receiver and the transmitter
+    write(&mut chip, 2, 0x01); // command: enable the receiver
+    hold(&mut chip, true); // the receiver must see a high line first
+    assert_eq!(poll(&mut chip), [], "the gauge has sent nothing");
+
     send(&mut chip, 42);
-    let status = chip.step(Event::Read(1)).data;
-    assert_eq!(status & 1, 1, "RxRDY is not set");
-    let height = chip.step(Event::Read(3)).data;
-    assert_eq!(height, 42, "another byte than the gauge sent");
-    println!("status {status}, the gauge says {height}");
+    send(&mut chip, 42);
+    assert_eq!(poll(&mut chip), [42, 42], "two equal offsets are two");
+
+    for old in [1, 2, 3, 4] {
+        send(&mut chip, old); // the queue holds three, and the fourth waits
+    }
+    write(&mut chip, 2, 0x20); // command: reset the receiver
+    write(&mut chip, 2, 0x01);
+    assert_eq!(poll(&mut chip), [], "an old offset is left");
+
+    hold(&mut chip, true);
+    send(&mut chip, 9);
+    let offsets: Vec<u8> = [poll(&mut chip), poll(&mut chip)].concat();
+    assert_eq!(offsets, [9], "the new offset is not added once");
+    println!("after the reset the gauge says {offsets:?}");
 }

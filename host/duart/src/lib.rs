@@ -11,6 +11,7 @@
 //! let mut chip = Duart::fresh();
 //! assert_eq!(chip.step(Event::Read(12)).data, 15); // IVR after a chip reset
 //! assert_eq!(chip.step(Event::Read(2)).number, 3); // a forbidden read is refused by number
+//! assert!(!chip.step(Event::Read(3)).fresh); // nothing has come: the byte is not new
 //! ```
 
 mod archive;
@@ -57,7 +58,7 @@ impl From<Event> for EventRecord {
     }
 }
 
-/// What is seen of an answer.
+/// What is seen of an answer. Refused: data 0, stale, and the lines as the chip drives them (for 1, all lines 0).
 #[repr(C)]
 #[derive(Clone, Copy, Debug, PartialEq, Eq)]
 pub struct Seen {
@@ -65,6 +66,11 @@ pub struct Seen {
     pub number: u8,
     /// the data byte, 0 where none is read
     pub data: u8,
+    /// Order 1: "fresh exactly when RxRDY was set before it". True for an accepted read of the receive buffer, register 3
+    /// or 11, that took a byte, be it equal to the last or not; a stale read repeats the last byte and changes nothing.
+    /// RxRDY is bit 0 of that channel's SR: MR1 bit 6 and the receiver's enable play no part. False for a refused read and
+    /// for any other event.
+    pub fresh: bool,
     /// IRQ, true when asserted
     pub irq: bool,
     pub txda: bool,
@@ -131,4 +137,74 @@ impl Default for Duart {
 /// nothing.
 pub fn frame(mr1: u8, mr2: u8, byte: u8, space: &mut [u8]) -> FrameAnswer {
     archive::frame(mr1, mr2, byte, space)
+}
+
+#[cfg(test)]
+mod tests {
+    use super::{Duart, Event, Seen};
+
+    /// IP4, whose rising edges are the receiver's 1X clock, and RxDA.
+    const IP4: u8 = 0x10;
+    const RXDA: u8 = 0x40;
+
+    fn receiving() -> Duart {
+        let mut chip = Duart::fresh();
+        for (register, byte) in [(0, 0x13), (0, 0x07), (1, 0xff), (2, 0x01)] {
+            assert_eq!(chip.step(Event::Write(register, byte)).number, 0);
+        }
+        chip
+    }
+
+    /// A high, a start bit, the data lowest bit first, a stop bit.
+    fn send(chip: &mut Duart, byte: u8) {
+        let levels = (u16::from(byte) << 2) | 0x401;
+        for place in 0..11 {
+            let rxda = if (levels >> place) & 1 == 1 { RXDA } else { 0 };
+            chip.step(Event::Pins(rxda));
+            chip.step(Event::Pins(rxda | IP4));
+        }
+    }
+
+    fn read(chip: &mut Duart) -> (u8, bool) {
+        let Seen { data, fresh, .. } = chip.step(Event::Read(3));
+        (data, fresh)
+    }
+
+    #[test]
+    fn a_byte_is_fresh_once_and_an_equal_one_is_fresh_again() {
+        let mut chip = receiving();
+        send(&mut chip, 42);
+        send(&mut chip, 42);
+        let reads = [(); 3].map(|()| read(&mut chip));
+        assert_eq!(reads, [(42, true), (42, true), (42, false)]);
+    }
+
+    #[test]
+    fn a_disabled_receiver_gives_fresh_bytes_and_a_reset_one_none() {
+        let mut chip = receiving();
+        send(&mut chip, 42);
+        send(&mut chip, 43);
+        chip.step(Event::Write(2, 0x02));
+        assert_eq!(read(&mut chip), (42, true));
+        chip.step(Event::Write(2, 0x20));
+        assert_eq!(read(&mut chip), (42, false));
+    }
+
+    #[test]
+    fn a_stale_read_leaves_the_chip_as_it_was() {
+        let mut chip = receiving();
+        let before = chip;
+        assert_eq!(read(&mut chip), (0, false));
+        assert_eq!(chip, before);
+    }
+
+    #[test]
+    fn a_status_read_and_a_refused_one_are_stale() {
+        let mut chip = receiving();
+        send(&mut chip, 42);
+        assert!(!chip.step(Event::Read(1)).fresh);
+        assert!(!chip.step(Event::Read(19)).fresh);
+        assert!(!chip.step(Event::Read(11)).fresh);
+        assert_eq!(read(&mut chip), (42, true));
+    }
 }

@@ -20,11 +20,13 @@ pub enum Event {
 }
 
 /// "The answer has the number, the data byte (0 where none is read), IRQ (1 when asserted), TxDA, TxDB,
-/// the OP0-OP7 levels and the new state."
+/// the OP0-OP7 levels and the new state." Order 1: "The receive buffer read shall also say fresh or stale",
+/// and "any other event is stale", so every answer says it.
 #[derive(Clone, Copy, Debug, PartialEq, Eq)]
 pub struct Seen {
     pub number: u8,
     pub data: u8,
+    pub fresh: bool,
     pub irq: bool,
     pub txda: bool,
     pub txdb: bool,
@@ -64,15 +66,26 @@ impl Chip {
         }
     }
 
-    /// "Refused: data 0, the state as given, lines as that state drives them"
+    /// "Refused: data 0, the state as given, lines as that state drives them"; order 1: "a refused read or
+    /// any other event is stale."
     pub fn step(&mut self, event: Event) -> Seen {
         let number = self.number(event);
-        let data = if number == ACCEPTED {
-            self.accept(event)
-        } else {
-            0
-        };
-        self.seen(number, data)
+        if number != ACCEPTED {
+            return self.seen(number, 0, false);
+        }
+        let fresh = self.would_be_fresh(event);
+        let data = self.accept(event);
+        self.seen(number, data, fresh)
+    }
+
+    /// Order 1: "fresh exactly when RxRDY was set before it": the bit of SR, so neither MR1 bit 6 nor the
+    /// receiver's enable plays a part.
+    fn would_be_fresh(&self, event: Event) -> bool {
+        match event {
+            Event::Read(3) => self.a.receiver.queue.is_ready(),
+            Event::Read(11) => self.b.receiver.queue.is_ready(),
+            _ => false,
+        }
     }
 
     /// The data byte, "0 where none is read".
@@ -93,11 +106,12 @@ impl Chip {
         0
     }
 
-    fn seen(&self, number: u8, data: u8) -> Seen {
+    fn seen(&self, number: u8, data: u8, fresh: bool) -> Seen {
         let isr = self.isr();
         Seen {
             number,
             data,
+            fresh,
             irq: self.irq_is_asserted(isr),
             txda: self.a.transmitter.txd().is_high(),
             txdb: self.b.transmitter.txd().is_high(),

@@ -1,8 +1,9 @@
-//! The mill controller's serial chip, written from document 01 alone and not from the Rattle
-//! definitions: what a programmer would write who wants a model of the chip. Nothing in it is proved,
-//! and nothing that is proved leans on it; it is there to be compared.
+//! The mill controller's serial chip, written from document 01 and the orders of document 02 alone and
+//! not from the Rattle definitions: what a programmer would write who wants a model of the chip. Nothing
+//! in it is proved, and nothing that is proved leans on it; it is there to be compared.
 //!
-//! A comment in double quotes is a sentence (or a part of one) of document 01, word for word.
+//! A comment in double quotes is a sentence (or a part of one) of document 01, word for word; where an
+//! order is named before it, of that order.
 
 pub mod channel;
 pub mod character;

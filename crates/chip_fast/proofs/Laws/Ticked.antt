@@ -22,7 +22,7 @@ use Rattle.front.specs.Front.{withSides}
 use Rattle.front.specs.Sound.{frontInRange}
 use Rattle.front.proofs.Laws.Ranges.{front-told}
 use Rattle.chip_answers.specs.declared.answers.Lines.{Lines}
-use Rattle.chip_answers.specs.Answers.{linesOf, eventData}
+use Rattle.chip_answers.specs.Answers.{linesOf, eventData, eventFresh}
 use Rattle.receiver.specs.Receiver.{fedOf}
 use Rattle.front_events.specs.FrontEvents.{frontStepped}
 use Rattle.chip_device.specs.declared.device.Device.{Device}
@@ -61,7 +61,7 @@ unsound-refused d e s =
     sym (refuses-first d e (λ (z : firstOf d e 0 ≡ 0). omega (arith, z, one)) ∙ ap (refusedOf d) one)
 
 taken-full : (d : Device) → acceptedOf (takenOf d Tick) ≡ atRest (fullOf d)
-unfolding takenOf eventData atRest
+unfolding takenOf eventData eventFresh atRest
 taken-full d = refl
 
 pub tick-step : (d : Device) → isSoundOf d ≡ true → stepOf d Tick ≡ atRest (fullOf d)
@@ -76,10 +76,10 @@ sound-ticks d s =
 
 -- where there is room: the lines that stood, and the device with a tick passed
 pub still-answer : (d : Device) → isSoundOf d ≡ true → 0 < frontRoom (d .front)
-    → record { number = 0; byte = 0; lines = deviceLines d; state = passedOf d (ticksOf 1) } ≡ stepOf d Tick
+    → record { number = 0; byte = 0; fresh = false; lines = deviceLines d; state = passedOf d (ticksOf 1) } ≡ stepOf d Tick
 unfolding atRest
 still-answer d s h =
-    sym (tick-step d s ∙ ap atRest (device-on d (sound-ticks d s) h) ∙ ap (λ l. record { number = 0; byte = 0; lines = l; state = passedOf d (ticksOf 1) }) (lines-stay d 1))
+    sym (tick-step d s ∙ ap atRest (device-on d (sound-ticks d s) h) ∙ ap (λ l. record { number = 0; byte = 0; fresh = false; lines = l; state = passedOf d (ticksOf 1) }) (lines-stay d 1))
 
 -- An answer with the fields written that a still tick writes: number, lines, the four phases, the count and the phase of ticks/16.
 abbrev phasesWith : Side → Ticks → Ticks → Side
@@ -96,6 +96,7 @@ writtenWith x lines ra ta rb tb t =
     record {
       number = 0;
       byte = x .byte;
+      fresh = x .fresh;
       lines = lines;
       state = record {
         front = withSides f (phasesWith (f .a) ra ta) (phasesWith (f .b) rb tb) (timerWith (f .timer) t);
@@ -127,8 +128,8 @@ late-other d e h = rw h
 -- ---- an acknowledge ----
 
 -- "acknowledge then reads IVR and changes nothing"
-ack-taken : (d : Device) → acceptedOf (takenOf d Acknowledge) ≡ record { number = 0; byte = d .front .ivr; lines = deviceLines d; state = d }
-unfolding takenOf frontStepped fedOf eventData
+ack-taken : (d : Device) → acceptedOf (takenOf d Acknowledge) ≡ record { number = 0; byte = d .front .ivr; fresh = false; lines = deviceLines d; state = d }
+unfolding takenOf frontStepped fedOf eventData eventFresh
 ack-taken d = refl
 
 turned : (x : Bool) → _≡_ {A = ℕ} (pick (not x) 6 0) (pick x 0 6)
@@ -141,7 +142,7 @@ unfolding firstOf registerAbove15 forbiddenRead forbiddenCommand settingNotModel
 ack-first d s = rw s (turned (deviceLines d .irq))
 
 pub ack-asserted : (d : Device) → isSoundOf d ≡ true → deviceLines d .irq ≡ true
-    → record { number = 0; byte = d .front .ivr; lines = deviceLines d; state = d } ≡ stepOf d Acknowledge
+    → record { number = 0; byte = d .front .ivr; fresh = false; lines = deviceLines d; state = d } ≡ stepOf d Acknowledge
 unfolding pick
 ack-asserted d s e =
     let free : firstOf d Acknowledge 0 ≡ 0 = ack-first d s ∙ rw e in
@@ -149,7 +150,7 @@ ack-asserted d s e =
 
 -- 6: "acknowledge while IRQ is not asserted"
 pub ack-unasserted : (d : Device) → isSoundOf d ≡ true → deviceLines d .irq ≡ false
-    → record { number = 6; byte = 0; lines = deviceLines d; state = d } ≡ stepOf d Acknowledge
+    → record { number = 6; byte = 0; fresh = false; lines = deviceLines d; state = d } ≡ stepOf d Acknowledge
 unfolding refusalLines pick
 ack-unasserted d s e =
     let six : firstOf d Acknowledge 0 ≡ 6 = ack-first d s ∙ rw e in

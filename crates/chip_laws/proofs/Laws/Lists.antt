@@ -93,7 +93,7 @@ enabling-held r Disables = refl
 
 -- the list of what a feed leaves, beside the byte that it answers
 abbrev pub fedList : Fed → ListFed
-fedList d = record { receiver = listOf (d .receiver); byte = d .byte }
+fedList d = record { receiver = listOf (d .receiver); byte = d .byte; fresh = d .fresh }
 
 read-held : (r : Receiver) → r .queue .count ≤ 4 → listRead (listOf r) (heldOf (r .queue)) ≡ fedList (readOf r)
 unfolding listRead readOf oldestRead pick

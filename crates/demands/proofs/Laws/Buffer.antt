@@ -43,7 +43,7 @@ use Rattle.demands.specs.Chip.Channel.{A, B}
 use Rattle.demands.specs.Clocks.{frontThen, sideOf}
 use Rattle.demands.specs.Delivery.{characterErrors, marksShown, readAt, heldFor, held}
 use Rattle.demands.proofs.Laws.Bits.{bit-7, bit-6, bit-5, bit-4}
-use Rattle.demands.proofs.Laws.Run.{runAt, run-append, run-then, run-sound, step-sound, front-from, receiverAt, step-receiver, status-byte, buffer-byte}
+use Rattle.demands.proofs.Laws.Run.{runAt, run-append, run-then, run-sound, step-sound, front-from, receiverAt, step-receiver, status-byte, buffer-byte, buffer-fresh}
 use Rattle.demands.proofs.Laws.Looks.{ready-bit}
 use Rattle.demands.proofs.Laws.Feeds.{handsTo, hands}
 
@@ -106,7 +106,8 @@ pub read-given : (levels : ℕ) (ch : Channel) (es : List Event)
     → readAt (chipOf stepOf) levels ch es ≡ given fedOf statusOf (receiverAt ch (runAt levels es)) Feeds.Read
 unfolding chipOf given fedOf
 read-given levels ch es =
-    rw (ready-bit levels ch es, marks-shown levels ch es, buffer-byte ch (runAt levels es) (run-sound levels es))
+    let s = run-sound levels es in
+    rw (buffer-fresh ch (runAt levels es) s, marks-shown levels ch es, buffer-byte ch (runAt levels es) s)
 
 pub four-counted : (ch : Channel) (d : Device) → isSoundOf d ≡ true → receiverAt ch d .queue .count ≤ 4
 four-counted ch d s =

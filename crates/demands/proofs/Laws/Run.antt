@@ -21,7 +21,7 @@ use Rattle.front_reads.specs.Reads.{sideRead, registerRead, frontData}
 use Rattle.events.specs.declared.events.Event.{Event}
 use Rattle.events.specs.declared.events.Event.the-variants.{Read}
 use Rattle.front_events.specs.FrontEvents.{frontStepped}
-use Rattle.chip_answers.specs.Answers.{isrOf, registerData, eventData}
+use Rattle.chip_answers.specs.Answers.{isrOf, registerData, eventData, registerFresh, eventFresh}
 use Rattle.chip_device.specs.declared.device.Device.{Device}
 use Rattle.chip_device.specs.Device.{isSoundOf, shownA, shownB}
 use Rattle.chip_refusals.specs.Rows.{registerAbove15, forbiddenRead, forbiddenCommand, settingNotModelled, acknowledgedUnasserted}
@@ -129,6 +129,19 @@ pub buffer-byte : (ch : Channel) (d : Device) → isSoundOf d ≡ true
 unfolding registerData registerRead sideRead fedOf pick
 buffer-byte A d s = read-byte d 3 s (omega arith) refl
 buffer-byte B d s = read-byte d 11 s (omega arith) refl
+
+-- order 1: and whether it says fresh is the receiver's
+read-flag : (d : Device) (n : ℕ) → isSoundOf d ≡ true → n ≤ 15 → (eqb n 2 || eqb n 10) ≡ false
+    → stepOf d (Read n) .fresh
+    ≡ registerFresh (fedOf (d .a) (registerRead (d .front) n .a) .fresh) (fedOf (d .b) (registerRead (d .front) n .b) .fresh) n
+unfolding takenOf eventFresh frontStepped
+read-flag d n s most k = ap (λ (x : Answer). x .fresh) (read-accepted d n s most k)
+
+pub buffer-fresh : (ch : Channel) (d : Device) → isSoundOf d ≡ true
+    → stepOf d (Read (registerOf ch 3)) .fresh ≡ readOf (receiverAt ch d) .fresh
+unfolding registerFresh registerRead sideRead fedOf pick
+buffer-fresh A d s = read-flag d 3 s (omega arith) refl
+buffer-fresh B d s = read-flag d 11 s (omega arith) refl
 
 pub interrupt-byte : (d : Device) → isSoundOf d ≡ true → stepOf d (Read 5) .byte ≡ isrOf (d .front) (shownA d) (shownB d)
 unfolding registerData pick

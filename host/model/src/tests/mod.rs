@@ -1,11 +1,12 @@
-//! The model's tests, all through `Chip::step` and `frame`: the eleven cases, the traps, and the open points of document 01 as
-//! docs/DECISIONS.md decides them.
+//! The model's tests, all through `Chip::step` and `frame`: the eleven cases, the traps, the open points of document 01 as
+//! docs/DECISIONS.md decides them, and the orders of document 02.
 
 mod board;
 mod breaks;
 mod cases;
 mod clocks;
 mod counting;
+mod freshness;
 mod hunting;
 mod queueing;
 mod registers;

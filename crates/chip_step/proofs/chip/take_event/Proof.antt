@@ -22,9 +22,12 @@ show-channel-requires-2 c κs = tt
 event-data-requires : tie.Need-event-data-requires
 event-data-requires c κs = tt
 
+event-fresh-requires : tie.Need-event-fresh-requires
+event-fresh-requires c κs = tt
+
 returns : tie.Need-returns
 unfolding takenOf
-returns c = simp (c .event-data .ensures, c .before .show-channel2 .ensures, c .before .before .show-channel .ensures, c .before .before .before .before .before .feed-receiver2 .ensures, c .before .before .before .before .before .before .feed-receiver .ensures, c .before .before .before .before .before .before .before .before .step-front .ensures)
+returns c = simp (c .event-fresh .ensures, c .before .event-data .ensures, c .before .before .show-channel2 .ensures, c .before .before .before .show-channel .ensures, c .before .before .before .before .before .before .feed-receiver2 .ensures, c .before .before .before .before .before .before .before .feed-receiver .ensures, c .before .before .before .before .before .before .before .before .before .step-front .ensures)
 
 pub take-event-spec : {M : Type 1} → statement M
 take-event-spec =
@@ -36,4 +39,5 @@ take-event-spec =
     show-channel-requires
     show-channel-requires-2
     event-data-requires
+    event-fresh-requires
     returns)

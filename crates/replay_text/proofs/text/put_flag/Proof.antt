@@ -1,4 +1,4 @@
--- `put_flag` meets its contract: first the digit is put, and then the space. Assumes nothing.
+-- `put_flag` meets its contract: first the digit is put, and then the separator. Assumes nothing.
 use mathlib.Core.Path.{_∙_}
 use native.Mathlib.Omega.{arith}
 use borrow.Author.Needs.{needs}
@@ -22,7 +22,10 @@ returns c =
     let put = c .before .before in
     let front = put .before .before .before .before in (
       omega arith,
-      put .put2 .ensures .1 .0 ∙ rw (front .put .ensures .1 .0, front .before .before .flag-digit .ensures),
+      (
+        put .put2 .ensures .1 .0 ∙ rw (front .put .ensures .1 .0, front .before .before .flag-digit .ensures),
+        put .put2 .ensures .1 .1,
+      ),
     )
 
 pub put-flag-spec : {M : Type 1} → statement M

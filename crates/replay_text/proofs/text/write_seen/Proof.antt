@@ -23,19 +23,24 @@ put-flag-requires-3 c κs = search needs
 put-byte-requires-3 : tie.Need-put-byte-requires-3
 put-byte-requires-3 c κs = search needs
 
+put-flag-requires-4 : tie.Need-put-flag-requires-4
+put-flag-requires-4 c κs = search needs
+
 returns : tie.Need-returns
 returns c =
-    let txdb = c .before .before in
+    let op = c .before .before in
+    let txdb = op .before .before in
     let txda = txdb .before .before in
     let irq = txda .before .before in
     let byte = irq .before .before in
     let number = byte .before .before in (
-      (c .put-byte3 .ensures .1 .1, sym (length-take-le (c .put-byte3 .result) (c .put-byte3 .last .1 .1 .1 .0) (c .put-byte3 .ensures .1 .1))),
-      c .put-byte3 .ensures .1 .0
+      (c .put-flag4 .ensures .1 .1, sym (length-take-le (c .put-flag4 .result) (c .put-flag4 .last .1 .1 .1 .0) (c .put-flag4 .ensures .1 .1))),
+      c .put-flag4 .ensures .1 .0
           ∙ rw (
-            txdb .put-flag3 .ensures .1,
-            txda .put-flag2 .ensures .1,
-            irq .put-flag .ensures .1,
+            op .put-byte3 .ensures .1 .0,
+            txdb .put-flag3 .ensures .1 .0,
+            txda .put-flag2 .ensures .1 .0,
+            irq .put-flag .ensures .1 .0,
             byte .put-byte2 .ensures .1 .0,
             number .put-byte .ensures .1 .0,
           ),
@@ -51,4 +56,5 @@ write-seen-spec =
     put-flag-requires-2
     put-flag-requires-3
     put-byte-requires-3
+    put-flag-requires-4
     returns)

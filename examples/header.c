@@ -1,0 +1,94 @@
+/*
+ * What include/duart.h says of refusals, of the fields of a device and an answer, of sound devices and of frame requests, tried on the
+ * archive: no compiler holds the header to the proved source. Prints what it saw, and ends with 0 if all was as it should be.
+ */
+#include "duart.h"
+
+#include <stdio.h>
+#include <string.h>
+
+static duart_device chip;
+
+static duart_seen event(uint8_t kind, uint8_t reg, uint8_t byte)
+{
+    duart_event e = {kind, reg, byte};
+    return duart_step(&chip, e);
+}
+
+static int differs(const char *what, unsigned found, unsigned wanted)
+{
+    printf("%s: %u\n", what, found);
+    return found != wanted;
+}
+
+/* Each field of an answer where the others are of another value: IRQ by the byte that channel A holds, OP0 low. */
+static int answers(void)
+{
+    duart_seen seen;
+    int wrong = 0;
+
+    wrong += differs("IMR", event(DUART_WRITE, 5, 0x02).number, DUART_ACCEPTED);
+    wrong += differs("set OP bit 0", event(DUART_WRITE, 14, 0x01).number, DUART_ACCEPTED);
+    chip.a.queue.count = 2;
+    chip.a.queue.first.byte = 42;
+    chip.front.b.transmitter.txd = false;
+    seen = event(DUART_READ, 3, 0);
+    wrong += differs("number", seen.number, DUART_ACCEPTED);
+    wrong += differs("data", seen.data, 42);
+    wrong += differs("fresh", seen.fresh, 1);
+    wrong += differs("irq", seen.irq, 1);
+    wrong += differs("txda", seen.txda, 1);
+    wrong += differs("txdb", seen.txdb, 0);
+    wrong += differs("op", seen.op, 0xfe);
+    wrong += differs("a status read is stale", event(DUART_READ, 1, 0).fresh, 0);
+    wrong += differs("a register above 15", event(DUART_READ, 19, 0).number, DUART_REGISTER_ABOVE_15);
+    wrong += differs("an unknown kind", event(99, 3, 0).number, DUART_REGISTER_ABOVE_15);
+    wrong += differs("bytes of an answer", (unsigned)sizeof seen, 7);
+    return wrong;
+}
+
+static int devices(void)
+{
+    int wrong = 0;
+
+    wrong += differs("IMR's field", chip.front.imr, 0x02);
+    wrong += differs("IVR", event(DUART_WRITE, 12, 0x41).number, DUART_ACCEPTED);
+    wrong += differs("its field", chip.front.ivr, 0x41);
+    wrong += differs("the last byte read", chip.a.last, 42);
+    wrong += differs("bytes of a device", (unsigned)sizeof chip, 200);
+    wrong += differs("sound", duart_sound(chip), 1);
+    chip.a.queue.count = 200;
+    wrong += differs("sound with 200 held", duart_sound(chip), 0);
+    wrong += differs("a read then", event(DUART_READ, 3, 0).number, DUART_UNSOUND);
+    wrong += differs("is stale", event(DUART_READ, 3, 0).fresh, 0);
+    wrong += differs("still held", chip.a.queue.count, 200);
+    return wrong;
+}
+
+static int frames(void)
+{
+    uint8_t levels[192];
+    duart_frame_answer frame;
+    int wrong = 0;
+
+    memset(levels, 7, sizeof levels);
+    frame = duart_frame(0x13, 0x07, 85, levels, sizeof levels);
+    wrong += differs("a frame's pulses", frame.length, 160);
+    wrong += differs("its last level", levels[159], 1);
+    wrong += differs("the space past it", levels[160], 7);
+    frame = duart_frame(0x13, 0x07, 85, levels, 159);
+    wrong += differs("too little space", frame.number, DUART_SPACE_SHORT);
+    wrong += differs("a frame of no pulses", frame.length, 0);
+    return wrong;
+}
+
+int main(void)
+{
+    int wrong;
+
+    chip = duart_fresh();
+    wrong = answers();
+    wrong += devices();
+    wrong += frames();
+    return wrong == 0 ? 0 : 1;
+}
