@@ -66,12 +66,14 @@ int main(void)
     expect("enable the receiver", event(DUART_WRITE, 2, 0x01).number, DUART_ACCEPTED);
     hold(true);
     send(42), send(42);
+    expect("SRA with bytes held", event(DUART_READ, 1, 0).data, 1);
     poll_gauge();
     expect("offsets, two equal ones sent", offsets, 2);
     expect("their sum", sum, 84);
 
     send(1), send(2), send(3), send(4); /* the queue holds three, and the fourth waits */
     expect("reset the receiver", event(DUART_WRITE, 2, 0x20).number, DUART_ACCEPTED);
+    expect("SRA after it", event(DUART_READ, 1, 0).data, 0);
     expect("enable it again", event(DUART_WRITE, 2, 0x01).number, DUART_ACCEPTED);
     poll_gauge();
     expect("offsets, the old ones dropped", offsets, 2);

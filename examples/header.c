@@ -59,6 +59,7 @@ static int devices(void)
     wrong += differs("sound", duart_sound(chip), 1);
     chip.a.queue.count = 200;
     wrong += differs("sound with 200 held", duart_sound(chip), 0);
+    wrong += differs("a tick then", event(DUART_TICK, 0, 0).number, DUART_UNSOUND);
     wrong += differs("a read then", event(DUART_READ, 3, 0).number, DUART_UNSOUND);
     wrong += differs("is stale", event(DUART_READ, 3, 0).fresh, 0);
     wrong += differs("still held", chip.a.queue.count, 200);
