@@ -1,6 +1,7 @@
 /*
- * What include/duart.h says of refusals, of the fields of a device and an answer, of sound devices and of frame requests, tried on the
- * archive: no compiler holds the header to the proved source. Prints what it saw, and ends with 0 if all was as it should be.
+ * What include/duart.h says of refusals, of the fields of a device and an answer, of the modes, of sound devices and of frame
+ * requests, tried on the archive: no compiler holds the header to the proved source. Prints what it saw, and ends with 0 if all was
+ * as it should be.
  */
 #include "duart.h"
 
@@ -66,6 +67,30 @@ static int devices(void)
     return wrong;
 }
 
+/* The field `echo`, the modes and what is left of answer 5 for MR2. */
+static int modes(void)
+{
+    int wrong = 0;
+
+    chip = duart_fresh();
+    wrong += differs("nothing echoed", chip.front.a.echo, 1);
+    chip.front.a.enabled = true;
+    chip.front.a.echo = false;
+    chip.front.a.mr2 = DUART_AUTOMATIC_ECHO;
+    wrong += differs("txda, a low echoed", event(DUART_READ, 12, 0).txda, 0);
+    chip.front.a.mr2 = DUART_REMOTE_LOOPBACK;
+    wrong += differs("in remote loopback", event(DUART_READ, 12, 0).txda, 0);
+    chip.front.a.mr2 = DUART_LOCAL_LOOPBACK;
+    wrong += differs("in local loopback", event(DUART_READ, 12, 0).txda, 1);
+    chip.front.a.moved = true;
+    wrong += differs("MR2 bit 5", event(DUART_WRITE, 0, 0x20).number, DUART_NOT_MODELLED);
+    wrong += differs("MR2 bits 7-6", event(DUART_WRITE, 0, DUART_REMOTE_LOOPBACK).number, DUART_ACCEPTED);
+    wrong += differs("sound", duart_sound(chip), 1);
+    chip.front.a.mr2 = 0x20;
+    wrong += differs("sound with MR2 bit 5", duart_sound(chip), 0);
+    return wrong;
+}
+
 static int frames(void)
 {
     uint8_t levels[192];
@@ -80,6 +105,10 @@ static int frames(void)
     frame = duart_frame(0x13, 0x07, 85, levels, 159);
     wrong += differs("too little space", frame.number, DUART_SPACE_SHORT);
     wrong += differs("a frame of no pulses", frame.length, 0);
+    frame = duart_frame(0x13, DUART_REMOTE_LOOPBACK | 0x07, 85, levels, sizeof levels);
+    wrong += differs("a frame's pulses, whatever the mode", frame.length, 160);
+    frame = duart_frame(0x13, 0x27, 85, levels, sizeof levels);
+    wrong += differs("a frame with MR2 bit 5", frame.number, DUART_NOT_MODELLED);
     return wrong;
 }
 
@@ -90,6 +119,7 @@ int main(void)
     chip = duart_fresh();
     wrong = answers();
     wrong += devices();
+    wrong += modes();
     wrong += frames();
     return wrong == 0 ? 0 : 1;
 }

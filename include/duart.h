@@ -111,7 +111,7 @@ typedef struct duart_transmitter {
     duart_shifter shifter;
     duart_pulses left; /* after a break: pulses still to come before the one that completes the bit */
     bool asked;        /* a break is asked and has not begun */
-    bool txd;          /* the level of TxD */
+    bool txd;          /* the transmitter's own level: in normal mode TxD, in local loopback what the receiver samples */
 } duart_transmitter;
 
 /* The phases of a channel's dividers. */
@@ -124,10 +124,11 @@ typedef struct duart_phases {
 /* One channel's registers, transmitter and clocks. */
 typedef struct duart_side {
     uint8_t mr1;
-    uint8_t mr2;
-    bool moved; /* the pointer has moved from MR1 to MR2 */
+    uint8_t mr2; /* bits 7-6 are the mode: DUART_NORMAL and the three below it */
+    bool moved;  /* the pointer has moved from MR1 to MR2 */
     uint8_t csr;
     bool enabled; /* the receiver's enable */
+    bool echo;    /* the level that the echo modes put on TxD, high where nothing has been echoed */
     duart_transmitter transmitter;
     duart_phases phases;
 } duart_side;
@@ -171,6 +172,30 @@ typedef struct duart_device {
     duart_receiver b;
 } duart_device;
 
+/* ---- the modes of a channel ---- */
+
+/*
+ * MR2 bits 7-6, written together with the rest of MR2. Order 2 says of them:
+ *
+ *  - local loopback: "the receiver takes the transmitter's level and its clock, TxD stays high, RxD is ignored, CTS still counts";
+ *  - automatic echo: "no character or break starts; at each pulse of an enabled receiver TxD takes the sampled level (high while
+ *    disabled), the receiver works as usual, TxRDY and TxEMT read 0";
+ *  - remote loopback: "the same echo, and no character is put together";
+ *  - all four: "A mode change drops what is being sent (a break too; the holding place stays) or put together, leaves an enabled
+ *    receiver as just enabled, and holds TxD high until the next pulse." The same two bits written again are no mode change.
+ *
+ * What a start-up test meets first: in local loopback a byte that is written before one pulse of the transmitter's clock has
+ * passed since mode and enable is not received, because a receiver just enabled must sample a high before a low counts (a later
+ * low of it may be taken for a start, and another character comes). Let one pulse pass, then write. The receiver must be
+ * enabled, as in normal mode. examples/loopback.c is such a test.
+ */
+enum {
+    DUART_NORMAL = 0x00,
+    DUART_AUTOMATIC_ECHO = 0x40,
+    DUART_LOCAL_LOOPBACK = 0x80,
+    DUART_REMOTE_LOOPBACK = 0xc0
+};
+
 /* ---- one event, one answer ---- */
 
 /* The kinds of event. A kind above DUART_TICK is a read of register 255: refused, nothing altered. */
@@ -197,7 +222,8 @@ enum {
     DUART_REGISTER_ABOVE_15 = 2, /* register above 15 */
     DUART_FORBIDDEN_READ = 3,    /* read of register 2 or 10 */
     DUART_FORBIDDEN_COMMAND = 4, /* command whose bits 3-2 or 1-0 are 11 */
-    DUART_NOT_MODELLED = 5,      /* a write, or a frame request, that chooses a setting which is not modelled */
+    DUART_NOT_MODELLED = 5,      /* a write, or a frame request, that chooses a setting which is not modelled: MR1 bit 7 or bits
+                                    4-3 = 11, MR2 bit 5, OPCR bits 1-0 not 00 or bit 3 */
     DUART_NOT_ASSERTED = 6,      /* an acknowledge while IRQ is not asserted */
     DUART_NEW_UNSOUND = 7,       /* the new state would be unsound: proved never to be given */
     DUART_SPACE_SHORT = 8        /* a frame request's space is shorter than the frame */
@@ -215,7 +241,7 @@ typedef struct duart_seen {
     uint8_t data; /* the data byte, 0 where none is read */
     bool fresh;   /* an accepted read of register 3 or 11, and RxRDY of that channel was set before it */
     bool irq;     /* asserted */
-    bool txda;
+    bool txda;    /* the level of the pin: high in local loopback, what is echoed in the echo modes */
     bool txdb;
     uint8_t op; /* bit n is the level of OPn */
 } duart_seen;
@@ -234,7 +260,8 @@ duart_seen duart_step(duart_device *device, duart_event event);
 
 /*
  * Writes the levels of a frame, one byte 0 or 1 for each 16X pulse, at most 192, into the first bytes of the `size` bytes at
- * `space`; those past it stay. Refused (5, 8): length 0 and nothing written. `space` is not NULL, also where `size` is 0.
+ * `space`; those past it stay. Refused (5, 8): length 0 and nothing written. `space` is not NULL, also where `size` is 0. MR2
+ * bits 7-6 and 4, the mode and CTS, are allowed and not used.
  */
 duart_frame_answer duart_frame(uint8_t mr1, uint8_t mr2, uint8_t byte, uint8_t *space, size_t size);
 

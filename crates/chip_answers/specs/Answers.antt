@@ -10,6 +10,7 @@ use Rattle.timer_state.specs.Counting.{modeOf, isTimer}
 use Rattle.events.specs.declared.events.Event.{Event}
 use Rattle.events.specs.declared.events.Event.the-variants.{ChipReset, Read, Write, Acknowledge, Pins, Tick}
 use Rattle.front.specs.declared.front.Front.{Front}
+use Rattle.front_modes.specs.Modes.{txdOf}
 use Rattle.inputs.specs.Inputs.{hasChosenChange}
 use Rattle.outputs.specs.Outputs.{opLevels}
 use Rattle.front_reads.specs.Reads.{frontData}
@@ -36,8 +37,8 @@ unfoldable pub linesOf : Front → Shown → Shown → Lines
 linesOf f a b =
     record {
       irq = assertedOf f a b;
-      txda = f .a .transmitter .txd;
-      txdb = f .b .transmitter .txd;
+      txda = txdOf (f .a);
+      txdb = txdOf (f .b);
       op = opLevels (f .outputs) (isrOf f a b) (timerLevel f (isrOf f a b));
     }
 

@@ -4,6 +4,7 @@ use chip_shown::Shown;
 use chip_shown::interrupt_status;
 use events::Event;
 use front::Front;
+use front_modes::show_txd;
 use front_reads::front_data;
 use inputs::has_chosen_change;
 use outputs::op_levels;
@@ -64,8 +65,18 @@ pub fn lines_of(front: Front, a: Shown, b: Shown) -> Lines
     let isr = isr_of(front, a, b);
     Lines {
         irq: share_a_bit(isr, front.imr),
-        txda: front.a.transmitter.txd,
-        txdb: front.b.transmitter.txd,
+        txda: show_txd(
+            front.a.mr2,
+            front.a.enabled,
+            front.a.echo,
+            front.a.transmitter.txd,
+        ),
+        txdb: show_txd(
+            front.b.mr2,
+            front.b.enabled,
+            front.b.echo,
+            front.b.transmitter.txd,
+        ),
         op: op_levels(front.outputs, isr, timer_level(front, isr)),
     }
 }

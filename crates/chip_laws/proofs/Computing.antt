@@ -13,7 +13,8 @@ use Rattle.inputs.specs.Inputs.{movedOf, pinsOfA, pinsOfB}
 use Rattle.outputs.specs.Outputs.{drivenBy, drivenOp3, opLevels}
 use Rattle.front_side.specs.Side.{freshSide, modeRegister, modeNotModelled, modeWritten, csrWritten, setChanged}
 use Rattle.front_side.specs.Side.{bufferWritten}
-use Rattle.front_side_clocks.specs.Clocking.{transmitterPulsed, lineOf, sideClocked}
+use Rattle.front_modes.specs.Modes.{txdShown, senderShown, modeSet, modeFeed}
+use Rattle.front_side_clocks.specs.Clocking.{transmitterPulsed, echoTaken, pulseOf, lineOf, sideClocked}
 use Rattle.front_commands.specs.Commands.{transmitterEffect, receiverEffect, transmitterEnabling, receiverEnabling}
 use Rattle.front_commands.specs.Commands.{sideCommanded, commandFeed}
 use Rattle.front.specs.Front.{frontAt}
@@ -35,7 +36,8 @@ unfoldable pub computing : Bool
 unfolding Receivers.computing Transmitters.computing hasBit weightOf byteOf dividedOf sixteenthOf periodOf
     restartedOnChange tickedOf sideOf transmitter1x inClocks.clockedOf counterPulsed timerPulsed pulsedBy tickedBy
     edgedBy startedOf stoppedOf modeChanged movedOf pinsOfA pinsOfB drivenBy drivenOp3 opLevels freshSide modeRegister
-    modeNotModelled modeWritten csrWritten setChanged bufferWritten transmitterPulsed lineOf sideClocked
+    modeNotModelled modeWritten csrWritten setChanged bufferWritten txdShown senderShown modeSet modeFeed
+    transmitterPulsed echoTaken pulseOf lineOf sideClocked
     transmitterEffect receiverEffect transmitterEnabling receiverEnabling sideCommanded commandFeed frontAt countedOf
     clockedWith inFrontClocks.clockedOf levelsMoved sideWritten acrWritten sharedWritten registerWritten sideRead
     sharedRead registerRead frontData frontStepped receivedOf shownOf assertedOf timerLevel linesOf registerData

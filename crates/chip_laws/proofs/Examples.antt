@@ -42,14 +42,21 @@ flagged changes =
 abbrev pub broken : Device
 broken = flagged 16
 
--- the fresh device with MR1 of channel A written
-abbrev pub withMode : ℕ → Device
-withMode mr1 =
+-- the fresh device with MR1 and MR2 of channel A written
+abbrev pub withModesA : ℕ → ℕ → Device
+withModesA mr1 mr2 =
     record {
-      front = withSides (freshDevice .front) (withModes freshSide mr1 0 true) freshSide (freshDevice .front .timer);
+      front = withSides (freshDevice .front) (withModes freshSide mr1 mr2 true) freshSide (freshDevice .front .timer);
       a = freshDevice .a;
       b = freshDevice .b;
     }
+
+abbrev pub withMode : ℕ → Device
+withMode mr1 = withModesA mr1 0
+
+-- a write that is taken, with no line changed
+abbrev taken : Device → Answer
+taken d = record { number = 0; byte = 0; fresh = false; lines = record { irq = false; txda = true; txdb = true; op = 255 }; state = d }
 
 -- ---- the answers ----
 
@@ -82,8 +89,12 @@ pub record Examples : Type 0 where
   pub mr1-24 : stepOf freshDevice (Write 8 24) ≡ refused 5 freshDevice
   -- where the pointer has moved to MR2
   pub mr2-32 : stepOf (withMode 19) (Write 0 32) ≡ refused 5 (withMode 19)
-  pub mr2-64 : stepOf (withMode 19) (Write 0 64) ≡ refused 5 (withMode 19)
-  pub mr2-128 : stepOf (withMode 19) (Write 0 128) ≡ refused 5 (withMode 19)
+  pub mr2-160 : stepOf (withMode 19) (Write 0 160) ≡ refused 5 (withMode 19)
+  pub mr2-255 : stepOf (withMode 19) (Write 0 255) ≡ refused 5 (withMode 19)
+  -- order 2: "5 no longer covers MR2 bits 7-6"
+  pub mr2-64 : stepOf (withMode 19) (Write 0 64) ≡ taken (withModesA 19 64)
+  pub mr2-128 : stepOf (withMode 19) (Write 0 128) ≡ taken (withModesA 19 128)
+  pub mr2-223 : stepOf (withMode 19) (Write 0 223) ≡ taken (withModesA 19 223)
   pub opcr-1 : stepOf freshDevice (Write 13 1) ≡ refused 5 freshDevice
   pub opcr-2 : stepOf freshDevice (Write 13 2) ≡ refused 5 freshDevice
   pub opcr-8 : stepOf freshDevice (Write 13 8) ≡ refused 5 freshDevice
@@ -108,8 +119,11 @@ examples =
       mr1-128 = refl;
       mr1-24 = refl;
       mr2-32 = refl;
+      mr2-160 = refl;
+      mr2-255 = refl;
       mr2-64 = refl;
       mr2-128 = refl;
+      mr2-223 = refl;
       opcr-1 = refl;
       opcr-2 = refl;
       opcr-8 = refl;

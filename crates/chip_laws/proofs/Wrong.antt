@@ -16,6 +16,7 @@ use Rattle.transmitter_state.specs.declared.state.Transmitter.{Transmitter}
 use Rattle.front_side.specs.Side.{freshSide, withTransmitter}
 use Rattle.transmitter.specs.Commands.{enabledOf, disabledOf}
 use Rattle.front.specs.declared.front.Front.{Front}
+use Rattle.front_modes.specs.Modes.{txdShown}
 use Rattle.front.specs.Front.{frontAt, withSides}
 use Rattle.front_reads.specs.Reads.{sideRead, sharedRead, registerRead}
 use Rattle.events.specs.declared.events.Event.{Event}
@@ -103,7 +104,7 @@ abbrev pub refusedDarkens : Step
 refusedDarkens = refusing (λ d e x. withLines x noLines)
 
 pub no-refusedDarkens : Table refusedDarkens → ⊥
-unfolding linesOf freshDevice frontAt freshSide pick
+unfolding linesOf txdShown freshDevice frontAt freshSide pick
 no-refusedDarkens h =
     let x : refusedDarkens freshDevice (Read 16) ≡ record { number = 2; byte = 0; fresh = false; lines = noLines; state = freshDevice } = rw (examples .read-16) in
     let z : noLines ≡ deviceLines freshDevice = rw x at (h .lines freshDevice (Read 16) (rw x (omega arith))) in
@@ -114,7 +115,7 @@ abbrev pub unsoundLit : Step
 unsoundLit = refusing (λ d e x. withLines x (deviceLines d))
 
 pub no-unsoundLit : Table unsoundLit → ⊥
-unfolding linesOf freshDevice frontAt freshSide pick
+unfolding linesOf txdShown freshDevice frontAt freshSide pick
 no-unsoundLit h =
     let lit : Lines = deviceLines broken in
     let x : unsoundLit broken ChipReset ≡ record { number = 1; byte = 0; fresh = false; lines = lit; state = broken } = rw (examples .unsound-reset) in

@@ -9,6 +9,7 @@ use Rattle.format.specs.Pick.{pick}
 use Rattle.bytes.specs.Bytes.{weightOf, byteOf}
 use Rattle.timer_state.specs.Counting.{freshTimer}
 use Rattle.front_side.specs.Side.{freshSide, withModes, modeNotModelled}
+use Rattle.front_modes.specs.Modes.{senderShown}
 use Rattle.chip_shown.specs.Shown.{receivedOf, shownOf}
 use Rattle.front.specs.declared.front.Front.{Front}
 use Rattle.front.specs.Front.{frontAt, withSides}
@@ -38,7 +39,7 @@ no-judgedByPointerA h = false≢true (h apart 24)
 
 -- "acknowledge while IRQ is not asserted": this one refuses it while IRQ is
 no-assertedRefused : ((d : Device) → deviceAsserted d ≡ acknowledgedUnasserted d Acknowledge) → ⊥
-unfolding acknowledgedUnasserted assertedOf shownOf receivedOf byteOf weightOf freshDevice frontAt freshSide pick
+unfolding acknowledgedUnasserted assertedOf shownOf senderShown receivedOf byteOf weightOf freshDevice frontAt freshSide pick
 no-assertedRefused h = false≢true (h freshDevice)
 
 -- "refusing all (the table's "exactly when")"

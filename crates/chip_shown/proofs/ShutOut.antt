@@ -5,10 +5,15 @@ use native.Mathlib.Omega.{arith}
 use Rattle.format.specs.Pick.{pick}
 use Rattle.character.specs.Character.{noMarks}
 use Rattle.receiver_status.specs.declared.status.Status.{Status}
+use Rattle.transmitter_state.specs.State as Transmitters
 use Rattle.transmitter.specs.declared.status.TransmitterStatus.{TransmitterStatus}
+use Rattle.transmitter.specs.Status.{statusOf}
+use Rattle.front_side.specs.declared.side.Side.{Side}
+use Rattle.front_side.specs.Side.{freshSide, withModes, withTransmitter}
+use Rattle.front_modes.specs.Modes.{senderShown}
 use Rattle.bytes.specs.Bytes.{weightOf, byteOf}
 use Rattle.chip_shown.specs.declared.shown.Shown.{Shown}
-use Rattle.chip_shown.specs.Shown.{statusRegister, receivedOf, interruptStatus}
+use Rattle.chip_shown.specs.Shown.{statusRegister, receivedOf, shownOf, interruptStatus}
 
 -- one character held
 abbrev one : Status
@@ -40,3 +45,10 @@ no-inputForCounter :
     → ⊥
 unfolding byteOf weightOf pick
 no-inputForCounter h = omega (arith, h false true none none)
+
+-- order 2: "TxRDY and TxEMT read 0", in ISR as in SR
+no-isrReadyInEcho : ((s : Side) (x : Status) (change : Bool) → statusOf (s .transmitter) .ready ≡ shownOf s x change .ready) → ⊥
+unfolding shownOf senderShown freshSide pick
+no-isrReadyInEcho h =
+    true≢false
+    (h (withTransmitter (withModes freshSide 19 71 true) (Transmitters.withEnabled Transmitters.freshTransmitter true)) one false)

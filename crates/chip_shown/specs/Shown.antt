@@ -8,9 +8,9 @@ use Rattle.receiver_state.specs.declared.arrivals.Receiver.{Receiver}
 use Rattle.receiver_status.specs.declared.status.Status.{Status}
 use Rattle.receiver_status.specs.Status.{statusOf}
 use Rattle.transmitter.specs.declared.status.TransmitterStatus.{TransmitterStatus}
-use Rattle.transmitter.specs.Status as Transmitters
 use Rattle.bytes.specs.Bytes.{byteOf}
 use Rattle.front_side.specs.declared.side.Side.{Side}
+use Rattle.front_modes.specs.Modes.{senderShown}
 use Rattle.chip_shown.specs.declared.shown.Shown.{Shown}
 
 -- "SR bits 7-0: break, framing, parity, overrun, TxEMT, TxRDY, FFULL, RxRDY."
@@ -31,10 +31,10 @@ blockErrors s = eqb (s .mr1 / 32 % 2) 1
 unfoldable pub shownOf : Side → Status → Bool → Shown
 shownOf s x change =
     record {
-      status = statusRegister x (Transmitters.statusOf (s .transmitter));
+      status = statusRegister x (senderShown s);
       change = change;
       received = receivedOf (s .mr1) x;
-      ready = Transmitters.statusOf (s .transmitter) .ready;
+      ready = senderShown s .ready;
     }
 
 abbrev pub channelShown : Side → Receiver → Shown

@@ -1,11 +1,11 @@
 // The status register, and the interrupt status register.
 use bytes::byte_of;
+use front_modes::show_sender;
 use front_side::Side;
 use receiver_state::Receiver;
 use receiver_status::Status;
 use receiver_status::show_status;
 use transmitter::TransmitterStatus;
-use transmitter::transmitter_status;
 ghost use mathlib.Core.Path.{_≡_};
 ghost use Rattle.chip_shown.specs.Shown.{statusRegister, receivedOf, channelShown, interruptStatus};
 
@@ -53,7 +53,7 @@ pub fn show_channel(side: Side, receiver: Receiver) -> Shown
     ensures { λ r. ⌜ r ≡ channelShown side receiver ⌝ }
 {
     let status = show_status(receiver, side.mr1 / 32 % 2 == 1);
-    let sender = transmitter_status(side.transmitter);
+    let sender = show_sender(side);
     Shown {
         status: status_register(status, sender),
         change: receiver.change,

@@ -83,8 +83,9 @@ pub record Edges (front : Front → Bool) (receiver : Receiver → Bool) : Type 
       map (λ (n : ℕ). front (onA (modes n 0))) (119 ∷ 120 ∷ 128 ∷ []) ++ map (λ (n : ℕ). front (onB (modes n 0))) (119 ∷ 120 ∷ 128 ∷ [])
       ≡ true ∷ false ∷ false ∷ true ∷ false ∷ false ∷ []
   pub mr2 :
-      map (λ (n : ℕ). front (onA (modes 0 n))) (31 ∷ 32 ∷ 64 ∷ []) ++ map (λ (n : ℕ). front (onB (modes 0 n))) (31 ∷ 32 ∷ 64 ∷ [])
-      ≡ true ∷ false ∷ false ∷ true ∷ false ∷ false ∷ []
+      map (λ (n : ℕ). front (onA (modes 0 n))) (31 ∷ 32 ∷ 95 ∷ 96 ∷ 223 ∷ 224 ∷ [])
+      ++ map (λ (n : ℕ). front (onB (modes 0 n))) (159 ∷ 160 ∷ 223 ∷ 224 ∷ [])
+      ≡ true ∷ false ∷ true ∷ false ∷ true ∷ false ∷ true ∷ false ∷ true ∷ false ∷ []
   pub opcr : map (λ (n : ℕ). front (ported 0 n)) (244 ∷ 1 ∷ 8 ∷ []) ≡ true ∷ false ∷ false ∷ []
   -- four change flags
   pub changes : map (λ (n : ℕ). front (ported n 0)) (15 ∷ 16 ∷ []) ≡ true ∷ false ∷ []

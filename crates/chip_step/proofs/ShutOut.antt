@@ -4,6 +4,7 @@ use mathlib.Core.Bool.{false, false≢true}
 use native.Mathlib.Omega.{arith}
 use Rattle.format.specs.Pick.{pick}
 use Rattle.front_side.specs.Side.{freshSide}
+use Rattle.front_modes.specs.Modes.{txdShown}
 use Rattle.front.specs.Front.{frontAt}
 use Rattle.front_writes.specs.Writes.{sharedWritten, registerWritten}
 use Rattle.chip_answers.specs.Answers.{linesOf}
@@ -21,5 +22,5 @@ no-frontStandsStill h = omega (arith, h freshDevice (Write 12 7))
 
 -- "lines as that state drives them (for 1, all lines 0)": this one puts them at 0 for 2 as well
 no-refusalOf2Dark : false ≡ refusalLines freshDevice 2 .txda → ⊥
-unfolding refusalLines linesOf freshDevice frontAt freshSide pick
+unfolding refusalLines linesOf txdShown freshDevice frontAt freshSide pick
 no-refusalOf2Dark = false≢true

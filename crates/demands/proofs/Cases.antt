@@ -1,11 +1,11 @@
--- Document 01's eleven cases, by computing the definitions: some cases at a time, for a check has its limits, and then the table. Assumes nothing.
+-- Document 01's eleven cases and order 2's, by computing the definitions: some cases at a time, for a check has its limits, and then the table. Assumes nothing.
 use mathlib.Core.Path.{_≡_, refl, sym}
 use mathlib.Core.Bool.{Bool, true, false, _&&_, true≢false}
 use mathlib.Core.List.{List, [], _∷_, _++_}
 use Rattle.chip_step.specs.Chip.{stepOf}
 use Rattle.demands.specs.Chip.{chipOf}
 use Rattle.demands.specs.Demand1.{requestFrame}
-use Rattle.demands.specs.Cases.{Row, holds, allHold, heard, case1, case2, case3, case4, case4sent, case5, case6, case7, case8, case9, case10, case11, Cases}
+use Rattle.demands.specs.Cases.{Row, holds, allHold, heard, pulsed, case1, case2, case3, case4, case4sent, case5, case6, case7, case7looped, case8, case9, case10, case11, Cases}
 use Rattle.demands.proofs.Computing.{computing}
 
 -- a case of ours
@@ -37,9 +37,13 @@ seventh : Holds case7
 unfolding computing holds allHold heard
 seventh = refl
 
+seventh-looped : Holds case7looped
+unfolding computing holds allHold pulsed
+seventh-looped = refl
+
 last-cases : Holds (case8 ++ case9 ++ case10 ++ case11)
 unfolding computing holds allHold heard
 last-cases = refl
 
 pub eleven-cases : Cases (chipOf stepOf) requestFrame
-eleven-cases = both _ _ (both _ _ (both _ _ (both _ _ first-cases fourth-sent) fifth-and-sixth) seventh) last-cases
+eleven-cases = both _ _ (both _ _ (both _ _ (both _ _ (both _ _ first-cases fourth-sent) fifth-and-sixth) seventh) seventh-looped) last-cases

@@ -6,7 +6,6 @@ use mathlib.Core.Bool.{Bool, true, false}
 use mathlib.Core.List.{List, [], _∷_}
 use lib.Dec.{eqb}
 use Rattle.format.specs.Pick.{pick}
-use Rattle.format.proofs.Laws.Pick.{pick-all}
 use Rattle.receiver_state.specs.declared.arrivals.Receiver.{Receiver}
 use Rattle.receiver_state.specs.Arrivals.{freshReceiver}
 use Rattle.receiver_status.specs.Status.{statusOf}
@@ -27,10 +26,10 @@ use Rattle.chip_laws.specs.Sound.{after}
 use Rattle.demands.specs.Chip.{Channel, registerOf, andThen, over, chipOf}
 use Rattle.demands.specs.Chip.Channel.{A, B}
 use Rattle.demands.specs.Clocks.{frontThen, frontAfter}
-use Rattle.demands.specs.Delivery.{commands, ledger, readsBuffer, linesFrom, readFrom, Demand3}
+use Rattle.demands.specs.Delivery.{ledger, readsBuffer, linesFrom, readFrom, Demand3}
 use Rattle.demands.proofs.Laws.Run.{runAt, run-then, reset-sound, run-sound, run-front, receiverAt, feedsFrom, step-receiver, run-receiver}
 use Rattle.demands.proofs.Laws.Told.{over-then}
-use Rattle.demands.proofs.Laws.Feeds.{handsTo, hands}
+use Rattle.demands.proofs.Laws.Feeds.{handsTo, hands, pulse-all, write-all}
 use Rattle.demands.proofs.Laws.Lines.{lines-from, ledger-from}
 use Rattle.demands.proofs.Laws.Buffer.{overrun-shown, read-given, four-empty, held-queue}
 
@@ -61,10 +60,10 @@ pub read-handed : (ch : Channel) (f : Front) (e : Event) → isRead (handsTo ch 
 unfolding commandFeed
 read-handed ch f ChipReset = refl
 read-handed ch f (Read n) = read-picked (eqb n (registerOf ch 3))
-read-handed ch f (Write n byte) = pick-all (λ (x : Feed). isRead x ≡ false) (commands ch n byte) _ _ refl refl
+read-handed ch f (Write n byte) = write-all (λ (x : Feed). isRead x ≡ false) ch f n byte refl refl refl
 read-handed ch f Acknowledge = refl
-read-handed ch f (Pins levels) = pick-all (λ (x : Feed). isRead x ≡ false) _ _ _ refl refl
-read-handed ch f Tick = pick-all (λ (x : Feed). isRead x ≡ false) _ _ _ refl refl
+read-handed ch f (Pins levels) = pulse-all (λ (x : Feed). isRead x ≡ false) refl (λ level g. refl) _ _ _ _
+read-handed ch f Tick = pulse-all (λ (x : Feed). isRead x ≡ false) refl (λ level g. refl) _ _ _ _
 
 -- the receiver after one event more
 pub receiver-then : (ch : Channel) (levels : ℕ) (es : List Event) (e : Event)

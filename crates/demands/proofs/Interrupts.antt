@@ -8,15 +8,19 @@ use native.Mathlib.Omega.{arith}
 use lib.Dec.{eqb}
 use borrow.Author.Tests.{eqb-true}
 use Rattle.format.specs.Pick.{pick}
+use Rattle.format.proofs.Laws.Pick.{pick-yes, pick-no, pick-all}
 use Rattle.receiver_status.specs.declared.status.Status.{Status}
 use Rattle.bytes.specs.Bytes.{hasBit}
 use Rattle.transmitter_state.specs.declared.state.Transmitter.{Transmitter}
 use Rattle.transmitter_state.specs.State.{afterBreak, sending, idlePhase, withHolding}
 use Rattle.transmitter.specs.Commands.{writtenOf, breakEnded, droppedOf, resetOf, enabledOf}
+use Rattle.transmitter.specs.declared.status.TransmitterStatus.{TransmitterStatus}
 use Rattle.transmitter.specs.Status as Transmitters
 use Rattle.transmitter.specs.Transmitter.{afterInput}
 use Rattle.front_commands.specs.Commands.{transmitterEffect, transmitterEnabling, sideCommanded}
+use Rattle.front_side.specs.declared.side.Side.{Side}
 use Rattle.front_side.specs.Side.{bufferWritten}
+use Rattle.front_modes.specs.Modes.{senderShown}
 use Rattle.chip_shown.specs.Shown.{receivedOf, shownOf}
 use Rattle.front.specs.declared.front.Front.{Front}
 use Rattle.front.specs.Front.{frontAt}
@@ -36,13 +40,14 @@ use Rattle.chip_step.proofs.Laws.Table.{accepts, refuses-first}
 use Rattle.chip_laws.specs.Reset.{resetAt}
 use Rattle.demands.specs.Chip.{chipOf, Channel, ofChannel, registerOf, andThen, shows, statusBit, linesAfter}
 use Rattle.demands.specs.Chip.Channel.{A, B}
-use Rattle.demands.specs.Told.{Programmed, programmed}
+use Rattle.demands.specs.Told.{Programmed, unprogrammed, programmedThen, programmed, inEcho}
 use Rattle.demands.specs.Clocks.{frontThen, frontAfter, sideOf}
 use Rattle.demands.specs.Registers.{changesAfter, imrAfter, acrAfter, shareBit, Interrupts}
 use Rattle.demands.proofs.Laws.Run.{runAt, run-then, run-front, run-sound}
 use Rattle.demands.proofs.Laws.Bits.{bit-7, bit-5, bit-4, bit-1, bit-0}
 use Rattle.demands.proofs.Laws.Fronts.{sideWritten, front-written}
-use Rattle.demands.proofs.Laws.Told.{over-then, told, imr-told, acr-told}
+use Rattle.demands.proofs.Laws.Told.{over-then, told, imr-told, acr-told, programmedOf}
+use Rattle.demands.proofs.Laws.Modes.{echo-told}
 use Rattle.demands.proofs.Laws.Ports.{changes-told}
 use Rattle.demands.proofs.Laws.Looks.{chip, receiverOn, step-lines, lines-after, interrupts-shown, ready-bit, full-bit, sends-bit, empty-bit}
 
@@ -108,12 +113,38 @@ received-shown levels B es =
 neither : (t : Transmitter) → t .enabled ≡ false → (Transmitters.statusOf t .ready ≡ false) × (Transmitters.statusOf t .empty ≡ false)
 neither t e = (rw e, rw e)
 
+-- what reads 0 of the transmitter reads 0 of its channel, in any mode
+ready-off : (s : Side) → Transmitters.statusOf (s .transmitter) .ready ≡ false → senderShown s .ready ≡ false
+unfolding senderShown
+ready-off s h = pick-all (λ (x : TransmitterStatus). x .ready ≡ false) _ _ _ refl h
+
+empty-off : (s : Side) → Transmitters.statusOf (s .transmitter) .empty ≡ false → senderShown s .empty ≡ false
+unfolding senderShown
+empty-off s h = pick-all (λ (x : TransmitterStatus). x .empty ≡ false) _ _ _ refl h
+
+-- and it is the transmitter's in a mode that does not echo
+shown-sending : (s : Side) → inEcho (programmedOf s) ≡ false → senderShown s ≡ Transmitters.statusOf (s .transmitter)
+unfolding senderShown
+shown-sending s h = pick-no _ _ _ (sym (echo-told s) ∙ h)
+
+-- order 2: "TxRDY and TxEMT read 0"
+echoing-shown : (levels : ℕ) (ch : Channel) (es : List Event) → inEcho (programmed ch es) ≡ true
+    → (statusBit chip levels ch es 2 ≡ false) × (statusBit chip levels ch es 3 ≡ false)
+unfolding senderShown
+echoing-shown levels ch es h =
+    let s : Side = sideOf ch (frontAfter levels es) in
+    let off : senderShown s ≡ record { ready = false; empty = false } =
+    pick-yes _ _ _ (sym (echo-told s) ∙ ap (λ (p : Programmed). inEcho p) (sym (told ch levels es)) ∙ h) in (
+      sends-bit levels ch es ∙ ap (λ (x : TransmitterStatus). x .ready) off,
+      empty-bit levels ch es ∙ ap (λ (x : TransmitterStatus). x .empty) off,
+    )
+
 disabled-shown : (levels : ℕ) (ch : Channel) (es : List Event) → programmed ch es .transmits ≡ false
     → (statusBit chip levels ch es 2 ≡ false) × (statusBit chip levels ch es 3 ≡ false)
 disabled-shown levels ch es h =
-    let t = sideOf ch (frontAfter levels es) .transmitter in
-    let both = neither t (sym (ap (λ (p : Programmed). p .transmits) (told ch levels es)) ∙ h) in
-    (sends-bit levels ch es ∙ both .0, empty-bit levels ch es ∙ both .1)
+    let s = sideOf ch (frontAfter levels es) in
+    let both = neither (s .transmitter) (sym (ap (λ (p : Programmed). p .transmits) (told ch levels es)) ∙ h) in
+    (sends-bit levels ch es ∙ ready-off s (both .0), empty-bit levels ch es ∙ empty-off s (both .1))
 
 -- the side after one write more
 side-written : (levels : ℕ) (ch : Channel) (es : List Event) (n byte : ℕ)
@@ -140,7 +171,7 @@ written-shown : (levels : ℕ) (ch : Channel) (es : List Event) (byte : ℕ)
     → statusBit chip levels ch (andThen es (Write (registerOf ch 3) byte)) 2 ≡ false
 written-shown levels ch es byte =
     sends-bit levels ch (andThen es (Write (registerOf ch 3) byte))
-    ∙ rw (side-written levels ch es (registerOf ch 3) byte, written-buffer) (holding _ byte)
+    ∙ ready-off _ (rw (side-written levels ch es (registerOf ch 3) byte, written-buffer) (holding _ byte))
 
 -- "reset transmitter", then "enable": both places are empty, for what is left of a break is no character
 both-empty : (t : Transmitter)
@@ -157,14 +188,23 @@ unfolding sideCommanded transmitterEffect transmitterEnabling afterInput pick
 written-command A f = refl
 written-command B f = refl
 
-enabled-shown : (levels : ℕ) (ch : Channel) (es : List Event)
+-- a command leaves the mode
+command-mode : (ch : Channel) (es : List Event) → inEcho (programmed ch (andThen es (Write (registerOf ch 2) 52))) ≡ inEcho (programmed ch es)
+unfolding programmedThen pick
+command-mode A es = rw (over-then (programmedThen A) unprogrammed es (Write 2 52))
+command-mode B es = rw (over-then (programmedThen B) unprogrammed es (Write 10 52))
+
+enabled-shown : (levels : ℕ) (ch : Channel) (es : List Event) → inEcho (programmed ch es) ≡ false
     → (statusBit chip levels ch (andThen es (Write (registerOf ch 2) 52)) 2 ≡ true)
     × (statusBit chip levels ch (andThen es (Write (registerOf ch 2) 52)) 3 ≡ true)
-enabled-shown levels ch es =
+enabled-shown levels ch es h =
     let fs = andThen es (Write (registerOf ch 2) 52) in
     let s = side-written levels ch es (registerOf ch 2) 52 in
     let both = both-empty (sideOf ch (frontAfter levels es) .transmitter) in
-    (sends-bit levels ch fs ∙ rw (s, written-command) (both .0), empty-bit levels ch fs ∙ rw (s, written-command) (both .1))
+    let on = shown-sending (sideOf ch (frontAfter levels fs)) (ap (λ (p : Programmed). inEcho p) (sym (told ch levels fs)) ∙ command-mode ch es ∙ h) in (
+      sends-bit levels ch fs ∙ ap (λ (x : TransmitterStatus). x .ready) on ∙ rw (s, written-command) (both .0),
+      empty-bit levels ch fs ∙ ap (λ (x : TransmitterStatus). x .empty) on ∙ rw (s, written-command) (both .1),
+    )
 
 pub interrupts : Interrupts (chipOf stepOf)
 interrupts =
@@ -178,4 +218,5 @@ interrupts =
       disabled = disabled-shown;
       written = written-shown;
       enabled = enabled-shown;
+      echoing = echoing-shown;
     }

@@ -4,6 +4,7 @@ pub mod EachRegister
 pub mod Run
 pub mod Fronts
 pub mod Told
+pub mod Modes
 pub mod Ports
 pub mod Looks
 pub mod Pins
@@ -16,6 +17,7 @@ pub mod Stops
 pub mod Frames
 pub mod Formats
 pub mod Senders
+pub mod Echoes
 pub mod Feeds
 pub mod Lines
 pub mod Buffer

@@ -18,4 +18,6 @@ pub mod Starts
 pub mod Transmits
 pub mod Sends
 pub mod ReadBack
+pub mod Loops
+pub mod Echoing
 pub mod Cases

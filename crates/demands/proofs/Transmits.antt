@@ -1,4 +1,4 @@
--- Demand 2, a transmitter: TxD, TxRDY and TxEMT show the one that is run alone. A write of the buffer changes it and nothing else of the chip, so a
+-- Demand 2, a transmitter: TxD, TxRDY and TxEMT show the one that is run alone, or what the mode puts in their place. A write of the buffer changes it and nothing else of the chip, so a
 -- write that it ignores, or that another replaces, is told by no later answer. Assumes nothing.
 use Prim.Native.Nat.{ℕ}
 use mathlib.Core.Path.{_≡_, refl, sym, ap, _∙_}
@@ -7,10 +7,13 @@ use mathlib.Core.List.{List, _∷_, _++_}
 use Rattle.format.specs.Pick.{pick}
 use Rattle.transmitter_state.specs.declared.state.Transmitter.{Transmitter}
 use Rattle.transmitter.specs.Commands.{writtenOf}
-use Rattle.transmitter.specs.Status.{shifterEmpty}
+use Rattle.transmitter.specs.declared.status.TransmitterStatus.{TransmitterStatus}
+use Rattle.transmitter.specs.Status.{shifterEmpty, statusOf}
 use Rattle.transmitter.specs.Transmitter.{afterInput}
 use Rattle.receiver.specs.Receiver.{fedOf}
+use Rattle.front_side.specs.declared.side.Side.{Side}
 use Rattle.front_side.specs.Side.{withTransmitter, bufferWritten}
+use Rattle.front_modes.specs.Modes.{echoMode, senderShown}
 use Rattle.front.specs.Front.{withSides}
 use Rattle.front_writes.specs.Writes.{sideWritten, registerWritten}
 use Rattle.events.specs.declared.events.Event.{Event}
@@ -26,13 +29,15 @@ use Rattle.chip_laws.proofs.Alone.{alone-state}
 use Rattle.chip_laws.proofs.Sound.{never-seven}
 use Rattle.demands.specs.Chip.{Channel, chipOf, registerOf, statusBit}
 use Rattle.demands.specs.Chip.Channel.{A, B}
-use Rattle.demands.specs.Told.{Programmed, programmed}
-use Rattle.demands.specs.Clocks.{sideOf}
+use Rattle.demands.specs.Told.{Programmed, programmed, inEcho}
+use Rattle.demands.specs.Clocks.{frontAfter, sideOf}
 use Rattle.demands.specs.Sending.{senderAfter, Transmits}
 use Rattle.demands.proofs.Laws.Run.{runAt, run-front, run-sound, step-sound}
 use Rattle.demands.proofs.Laws.Told.{told}
 use Rattle.demands.proofs.Laws.Looks.{chip, sends-bit, empty-bit}
-use Rattle.demands.proofs.Laws.Senders.{sender-told, txd-shown}
+use Rattle.demands.proofs.Laws.Modes.{echo-told}
+use Rattle.demands.proofs.Laws.Senders.{sender-told}
+use Rattle.demands.proofs.Laws.Echoes.{txd-shown}
 use Rattle.demands.proofs.Registers.{on-from, same-after}
 
 -- ---- TxRDY and TxEMT ----
@@ -40,13 +45,36 @@ use Rattle.demands.proofs.Registers.{on-from, same-after}
 pub enabled-told : (levels : ℕ) (ch : Channel) (es : List Event) → senderAfter levels ch es .enabled ≡ programmed ch es .transmits
 enabled-told levels ch es = rw (sender-told levels ch es, told ch levels es)
 
+shown-ready : (s : Side) → senderShown s .ready ≡ (not (echoMode (s .mr2)) && (s .transmitter .enabled && not (s .transmitter .full)))
+unfolding senderShown pick
+shown-ready s = go (echoMode (s .mr2))
+  where
+    go : (b : Bool) → pick b (record { ready = false; empty = false }) (statusOf (s .transmitter)) .ready
+        ≡ (not b && (s .transmitter .enabled && not (s .transmitter .full)))
+    go true = refl
+    go false = refl
+
+shown-empty : (s : Side) → senderShown s .empty ≡ (senderShown s .ready && shifterEmpty (s .transmitter))
+unfolding senderShown pick
+shown-empty s = go (echoMode (s .mr2))
+  where
+    shown : Bool → TransmitterStatus
+    shown b = pick b (record { ready = false; empty = false }) (statusOf (s .transmitter))
+
+    go : (b : Bool) → shown b .empty ≡ (shown b .ready && shifterEmpty (s .transmitter))
+    go true = refl
+    go false = refl
+
 pub ready-shown : (levels : ℕ) (ch : Channel) (es : List Event)
-    → statusBit chip levels ch es 2 ≡ (programmed ch es .transmits && not (senderAfter levels ch es .full))
-ready-shown levels ch es = sends-bit levels ch es ∙ rw (sender-told levels ch es, told ch levels es)
+    → statusBit chip levels ch es 2
+    ≡ (not (inEcho (programmed ch es)) && (programmed ch es .transmits && not (senderAfter levels ch es .full)))
+ready-shown levels ch es =
+    let s : Side = sideOf ch (frontAfter levels es) in
+    sends-bit levels ch es ∙ shown-ready s ∙ sym (rw (sender-told levels ch es, told ch levels es, echo-told s))
 
 pub empty-shown : (levels : ℕ) (ch : Channel) (es : List Event)
     → statusBit chip levels ch es 3 ≡ (statusBit chip levels ch es 2 && shifterEmpty (senderAfter levels ch es))
-empty-shown levels ch es = rw (empty-bit levels ch es, sends-bit levels ch es, sender-told levels ch es)
+empty-shown levels ch es = rw (empty-bit levels ch es, sends-bit levels ch es, sender-told levels ch es) (shown-empty (sideOf ch (frontAfter levels es)))
 
 -- ---- a write of the buffer ----
 

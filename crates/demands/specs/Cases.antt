@@ -1,10 +1,11 @@
--- Document 01's eleven cases: "One table, one statement, checked by the definitions": a row is a set-up, the events,
--- what public answer to look at, and what it must be. Cases 3 to 6 look at what the frame request answers and writes.
--- Assumes nothing.
+-- Document 01's eleven cases, and order 2's: "One table, one statement, checked by the definitions": a row is a set-up,
+-- the events, what public answer to look at, and what it must be. Cases 3 to 6 look at what the frame request answers
+-- and writes. Assumes nothing.
 use Prim.Native.Nat.{ℕ, zero, suc, _+_, _*_}
 use mathlib.Core.Path.{_≡_}
 use mathlib.Core.Bool.{Bool, true, false, _&&_}
 use mathlib.Core.List.{List, [], _∷_, _++_}
+use lib.Bits.{bitAnd}
 use lib.Dec.{eqb}
 use lib.ListN.{getD, replicate}
 use Rattle.format.specs.Pick.{pick}
@@ -22,12 +23,15 @@ use Rattle.demands.specs.Demand1.{Request}
 -- of an answer to an event
 pub data Look : Type 0 where
   byte txda txdb op : Look
+  -- SR bits 4, 1 and 0, which are the receiver's: overrun, FFULL, RxRDY
+  receiver : Look
 
 abbrev pub seen : Look → Seen → ℕ
 seen byte x = x .byte
 seen txda x = bit (x .lines .txda)
 seen txdb x = bit (x .lines .txdb)
 seen op x = x .lines .op
+seen receiver x = bitAnd (x .byte) 19
 
 -- of a frame request: the pulses it answers, how many of the levels it wrote are high, the level in the middle of bit
 -- i, and the number that w bits after the start bit make, the lowest first
@@ -103,6 +107,26 @@ fiveArrive sixteen = fourArrive sixteen ++ arrives sixteen 5
 -- four have arrived at 1X; at 16X then the low at p and so many more
 abbrev pub lowFor : ℕ → List Event
 lowFor n = fourArrive false ++ Write 1 238 ∷ heard (replicate n false)
+
+-- Order 2: "Case 7 in local loopback, transmitter enabled": pulses of transmitter A on falling IP3, with RxDA low all the
+-- time
+unfoldable pub pulsed : ℕ → List Event
+pulsed zero = []
+pulsed (suc n) = Pins 183 ∷ Pins 191 ∷ pulsed n
+
+-- MR1 19, MR2 7 in local loopback, CSR code 15 (1X) for both, both enabled; then one pulse
+abbrev pub looping : List Event
+looping = Write 0 19 ∷ Write 0 135 ∷ Write 1 255 ∷ Write 2 5 ∷ pulsed 1
+
+-- sent, and so received: a start, eight bits and a stop
+abbrev pub loops : ℕ → List Event
+loops x = Write 3 x ∷ pulsed 10
+
+abbrev pub fourLoop : List Event
+fourLoop = looping ++ loops 1 ++ loops 2 ++ loops 3 ++ loops 4
+
+abbrev pub fiveLoop : List Event
+fiveLoop = fourLoop ++ loops 5
 
 -- transmitter A on code 11, MR1 19, MR2 7, and 85 to send: its start comes with tick 24; another is written then
 abbrev pub sends : List Event
@@ -189,6 +213,21 @@ case7 =
     ∷ shows (fiveArrive true ++ Read 3 ∷ Read 3 ∷ Read 3 ∷ []) (Read 3) byte 5
     ∷ []
 
+-- order 2: "Case 7 in local loopback, transmitter enabled, gives the same reads and the same SR bits 4, 1 and 0."; at 16X
+-- the next start is confirmed on the ninth pulse of its start bit; "TxD stays high"
+abbrev pub case7looped : List Row
+case7looped =
+    shows fourLoop (Read 1) receiver 3
+    ∷ shows (fourLoop ++ Write 3 5 ∷ pulsed 1) (Read 1) receiver 19
+    ∷ shows (fourLoop ++ Write 3 5 ∷ pulsed 1) (Read 1) txda 1
+    ∷ shows fiveLoop (Read 3) byte 1
+    ∷ shows (fiveLoop ++ Read 3 ∷ []) (Read 3) byte 2
+    ∷ shows (fiveLoop ++ Read 3 ∷ Read 3 ∷ []) (Read 3) byte 3
+    ∷ shows (fiveLoop ++ Read 3 ∷ Read 3 ∷ Read 3 ∷ []) (Read 3) byte 5
+    ∷ shows (fourLoop ++ Write 1 238 ∷ Write 3 5 ∷ pulsed 8) (Read 1) receiver 3
+    ∷ shows (fourLoop ++ Write 1 238 ∷ Write 3 5 ∷ pulsed 9) (Read 1) receiver 19
+    ∷ []
+
 -- "Four arrive unread, receiver reset: SR 0, read 0."
 abbrev pub case8 : List Row
 case8 =
@@ -216,7 +255,7 @@ case11 = shows (timing ++ replicate 4 Tick) (Read 5) byte 8 ∷ shows (timing ++
 
 abbrev pub table : List Row
 table =
-    (case1 ++ case2 ++ case3 ++ case4) ++ case4sent ++ (case5 ++ case6) ++ case7 ++ (case8 ++ case9 ++ case10 ++ case11)
+    (case1 ++ case2 ++ case3 ++ case4) ++ case4sent ++ (case5 ++ case6) ++ case7 ++ case7looped ++ (case8 ++ case9 ++ case10 ++ case11)
 
 -- all hold
 abbrev pub Cases : Chip → Request → Type 0

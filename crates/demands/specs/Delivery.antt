@@ -2,12 +2,13 @@
 -- clock pulses, the format and the enable alone put together. Those the program read while the ready bit was set, then
 -- those still held, are exactly these characters in order, each once, less those overrun removed by document 01's rule
 -- and those a receiver or chip reset dropped. At most four are ever held." The list may hold refused events too: they
--- do nothing (Reached). The ledger is written from the events, the clock pulses (Pulses) and a sampler run alone (crate
--- sampler_laws), and what was read and what is held from the answers. Order 1: "Demand 3 counts fresh reads, the same
--- reads as before": these are by the flag; that they are the same is `Fresh`. Assumes nothing.
+-- do nothing (Reached). Order 2: "its characters depend on the mode too; in remote loopback there are none". The ledger
+-- is written from the events, the clock pulses (Pulses), in local loopback the transmitter run alone (Sending), and a
+-- sampler run alone (crate sampler_laws), and what was read and what is held from the answers. Order 1: "Demand 3 counts
+-- fresh reads, the same reads as before": these are by the flag; that they are the same is `Fresh`. Assumes nothing.
 use Prim.Native.Nat.{ℕ, zero, suc, _/_, _%_}
 use mathlib.Core.Path.{_≡_}
-use mathlib.Core.Bool.{Bool, false, not, _&&_}
+use mathlib.Core.Bool.{Bool, false, not, _&&_, _||_}
 use mathlib.Core.List.{List, [], _∷_, _++_, map}
 use lib.Dec.{eqb}
 use lib.ListN.{replicate}
@@ -22,30 +23,37 @@ use Rattle.receiver.specs.Delivery.{Ledger, opened, meets, dropAll, clears, pul
 use Rattle.receiver.specs.Delivery.{fatedBy}
 use Rattle.receiver.specs.Delivery.Fate.{WasRead, Held}
 use Rattle.clocks.specs.Channel.{isSixteen}
-use Rattle.clocks.specs.Pulses.Side.{receives}
+use Rattle.clocks.specs.Pulses.Side.{receives, transmits}
 use Rattle.bytes.specs.Bytes.{hasBit}
-use Rattle.events.specs.Command.{commandForbidden}
 use Rattle.events.specs.declared.events.Event.{Event}
 use Rattle.events.specs.declared.events.Event.the-variants.{ChipReset, Read, Write, Acknowledge, Pins, Tick}
 use Rattle.demands.specs.Chip.{Chip, Channel, ofChannel, registerOf, andThen, shows, statusBit}
-use Rattle.demands.specs.Told.{Programmed, levelsAfter, programmed}
+use Rattle.demands.specs.Told.{Programmed, levelsAfter, commands, programmed, inLocal, inRemote, modeChanges}
 use Rattle.demands.specs.Clocks.{pulsedAfter}
-
--- an accepted command of the channel: the write of register 2 or 10 that no 11 forbids
-abbrev pub commands : Channel → ℕ → ℕ → Bool
-commands ch n byte = eqb n (registerOf ch 2) && not (commandForbidden byte)
+use Rattle.demands.specs.Sending.{senderAfter}
 
 -- ---- "the line, the clock pulses, the format and the enable alone" ----
 
--- A pulse is heard by an enabled receiver: RxD as it stands after the event ("6 RxDA, 7 RxDB"), and the format and 16X
--- or 1X of MR1 and CSR.
+-- a pulse of a clock with this code, and what it finds: a level, and the format and 16X or 1X
+abbrev pub heardAt : ℕ → ℕ → Bool → Bool → List Line
+heardAt mr1 code pulsed level =
+    pick pulsed (pulse level (record { format = formatOf mr1; sixteen = isSixteen code }) ∷ []) []
+
+-- What an enabled receiver hears of its own clock's pulse and of its transmitter's, which puts this level out, with RxD
+-- at that one. Order 2: "Demand 3's line is the one the receiver samples": RxD and its own clock, CSR bits 7-4; in
+-- local loopback "the transmitter's level and its clock", bits 3-0; "in remote loopback there are none".
+abbrev pub heardBy : Programmed → Bool → Bool → Bool → Bool → List Line
+heardBy p own sent level rxd =
+    pick (not (p .receives) || inRemote p) []
+    (pick (inLocal p) (heardAt (p .mr1) (p .csr % 16) sent level)
+    (heardAt (p .mr1) (p .csr / 16) own rxd))
+
+-- in an event: RxD as it stands after it ("6 RxDA, 7 RxDB"), and the level of the transmitter, run alone, after it
 abbrev pub pulseLines : Channel → ℕ → List Event → Event → List Line
 pulseLines ch levels es e =
-    let p : Programmed = programmed ch es in
-    pick (p .receives && pulsedAfter receives ch levels es e)
-    (pulse (hasBit (levelsAfter levels (andThen es e)) (ofChannel ch 6 7))
-    (record { format = formatOf (p .mr1); sixteen = isSixteen (p .csr / 16) }) ∷ [])
-    []
+    heardBy (programmed ch es) (pulsedAfter receives ch levels es e) (pulsedAfter transmits ch levels es e)
+    (senderAfter levels ch (andThen es e) .txd)
+    (hasBit (levelsAfter levels (andThen es e)) (ofChannel ch 6 7))
 
 -- "there every receiver or chip reset is a disable, even where the same command enables again": bits 6-4
 abbrev pub resetLines : ℕ → List Line
@@ -59,11 +67,14 @@ abbrev pub commandLines : Bool → ℕ → List Line
 commandLines enabled byte =
     resetLines (byte / 16 % 8) ++ enablingLines (enabled && not (eqb (byte / 16 % 8) 2)) (byte % 4)
 
--- what a channel's sampler hears of one event after these: a read, or a command that clears, is nothing to it
+-- what a channel's sampler hears of one event after these: a read, or a command that clears, is nothing to it. Order 2:
+-- "A mode change .. leaves an enabled receiver as just enabled"; a disabled one has nothing under way.
 unfoldable pub linesAt : Channel → ℕ → List Event → Event → List Line
 linesAt ch levels es ChipReset = disable ∷ []
 linesAt ch levels es (Read n) = []
-linesAt ch levels es (Write n byte) = pick (commands ch n byte) (commandLines (programmed ch es .receives) byte) []
+linesAt ch levels es (Write n byte) =
+    pick (commands ch n byte) (commandLines (programmed ch es .receives) byte)
+    (pick (modeChanges ch (programmed ch es) n byte) (enable ∷ []) [])
 linesAt ch levels es Acknowledge = []
 linesAt ch levels es (Pins x) = pulseLines ch levels es (Pins x)
 linesAt ch levels es Tick = pulseLines ch levels es Tick

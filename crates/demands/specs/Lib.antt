@@ -10,10 +10,12 @@ pub mod Registers
 pub mod Counter
 pub mod Counted
 pub mod Pulses
+pub mod Sending
 pub mod Delivery
 pub mod Fresh
 pub mod Received
 pub mod Starts
-pub mod Sending
 pub mod ReadBack
+pub mod Loops
+pub mod Echoing
 pub mod Cases

@@ -17,7 +17,8 @@ use Rattle.demands.specs.Chip.Channel.{A, B}
 use Rattle.demands.specs.Told.{programmed}
 
 -- The chip judges by the pointer of its state; the statement by the pointer that the events told so far leave.
--- "Not modelled (5): MR1 bit 7 set or bits 4-3 = 11; MR2 bits 7-6 not 00, or bit 5 set": where the channel's pointer is
+-- "Not modelled (5): MR1 bit 7 set or bits 4-3 = 11; MR2 .. bit 5 set"; order 2: "5 no longer covers MR2 bits 7-6.":
+-- where the channel's pointer is
 abbrev pub modeRefused : Channel → List Event → ℕ → Bool
 modeRefused ch es byte = pick (programmed ch es .moved) (mr2NotModelled byte) (mr1NotModelled byte)
 

@@ -1,7 +1,8 @@
 -- Demand 2: "A frame the transmitter sends is read back by an idle, enabled, empty, undisturbed receiver with the same
 -- format and 16X pulses as the same character, cut to its data bits, without an error mark." Either channel sends, and
 -- either receives; what joins TxD to RxD stands outside the chip, and is any list of events in which the receiver's
--- pulses find the levels that were sent. Assumes nothing.
+-- pulses find the levels that were sent. Order 2: "Demand 2's receiver is in normal mode or automatic echo, or in local
+-- loopback with the frame its own transmitter's." Assumes nothing.
 use Prim.Native.Nat.{ℕ}
 use mathlib.Core.Path.{_≡_}
 use mathlib.Core.Bool.{Bool, true, false, not, _||_}
@@ -20,10 +21,10 @@ use Rattle.receiver.specs.ReadBack.{Idle}
 use Rattle.bytes.specs.Bytes.{hasBit}
 use Rattle.events.specs.declared.events.Event.{Event}
 use Rattle.events.specs.declared.events.Event.the-variants.{ChipReset, Read, Write, Acknowledge, Pins, Tick}
-use Rattle.demands.specs.Chip.{Chip, Channel, ofChannel, registerOf, shows, statusBit, eachOf}
-use Rattle.demands.specs.Told.{programmed}
+use Rattle.demands.specs.Chip.{Chip, Channel, ofChannel, registerOf, andThen, shows, statusBit, eachOf}
+use Rattle.demands.specs.Told.{programmed, inNormal, inLocal}
 use Rattle.demands.specs.Delivery.{linesFrom, ledger, held}
-use Rattle.demands.specs.Sending.{senderAfter, standing, Starts, startedFrame, keepsSending, pulsesFrom, sentFrom}
+use Rattle.demands.specs.Sending.{senderAfter, standing, Starts, startedFrame, keepsFrom, pulsesFrom, sentFrom}
 
 -- "idle, enabled, empty": "it is idle while it hunts and its last sample was high", and the ready bit is clear
 pub record Listens (c : Chip) (levels : ℕ) (ch : Channel) (es : List Event) : Type 0 where
@@ -76,11 +77,20 @@ pub record ReadsBack (c : Chip) : Type 0 where
   -- pulses find. They may be of one chip or of two, which were reset with other levels on their pins and had other
   -- events.
   pub sent : (there here : ℕ) (sender receiver : Channel) (es fs before gs : List Event) (e : Event)
-      → Starts there sender es e
-      → eachOf (keepsSending sender) fs ≡ true
+      → Starts there sender es e → inNormal (programmed sender es) ≡ true
+      → keepsFrom sender (andThen es e) fs ≡ true
       → pulsesFrom there sender es (e ∷ fs) ≡ length (startedFrame there sender es e)
       → standing there sender es e .sixteen ≡ true → SameFormat (formatAfter sender es) (formatAfter receiver before)
       → Listens c here receiver before → eachOf (undisturbed receiver) gs ≡ true
       → linesFrom receiver here before gs
       ≡ carried (at16 (formatAfter receiver before)) (sentFrom c there sender es (e ∷ fs))
       → ReadBack c here receiver before gs (senderAfter there sender es .holding)
+  -- Order 2, "in local loopback with the frame its own transmitter's": what a channel's transmitter sends with 16X pulses
+  -- its own receiver reads back, whatever RxD does meanwhile and whatever is written to the buffer. (What is looped
+  -- back is on no pin: `Loops` ties it to one.)
+  pub looped : (levels : ℕ) (ch : Channel) (es fs : List Event) (e : Event) → Starts levels ch es e
+      → inLocal (programmed ch es) ≡ true
+      → pulsesFrom levels ch es (e ∷ fs) ≡ length (startedFrame levels ch es e)
+      → standing levels ch es e .sixteen ≡ true
+      → Listens c levels ch es → eachOf (undisturbed ch) (e ∷ fs) ≡ true
+      → ReadBack c levels ch es (e ∷ fs) (senderAfter levels ch es .holding)

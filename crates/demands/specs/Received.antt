@@ -18,8 +18,8 @@ use Rattle.bytes.specs.Bytes.{hasBit}
 use Rattle.events.specs.declared.events.Event.{Event}
 use Rattle.events.specs.declared.events.Event.the-variants.{ChipReset, Read, Write, Acknowledge, Pins, Tick}
 use Rattle.demands.specs.Chip.{Chip, Channel, ofChannel, registerOf, andThen, shows, statusBit}
-use Rattle.demands.specs.Told.{programmed}
-use Rattle.demands.specs.Delivery.{commands, linesAt, ledger, readsBuffer, held}
+use Rattle.demands.specs.Told.{programmed, commands}
+use Rattle.demands.specs.Delivery.{linesAt, ledger, readsBuffer, held}
 
 -- SR bits 7-5
 abbrev pub statusMarks : Chip → ℕ → Channel → List Event → Marks

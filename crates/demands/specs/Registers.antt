@@ -16,7 +16,7 @@ use Rattle.events.specs.declared.events.Event.{Event}
 use Rattle.events.specs.declared.events.Event.the-variants.{ChipReset, Read, Write, Acknowledge, Pins, Tick}
 use Rattle.chip_laws.specs.Quiet.{onlyLooks}
 use Rattle.demands.specs.Chip.{Chip, Channel, ofChannel, registerOf, andThen, over, shows, statusBit, linesAfter}
-use Rattle.demands.specs.Told.{lastWritten, levelsAfter, programmed}
+use Rattle.demands.specs.Told.{lastWritten, levelsAfter, programmed, inEcho}
 
 -- ---- what the events tell of the ports ----
 
@@ -138,9 +138,12 @@ pub record Interrupts (c : Chip) : Type 0 where
   -- "holding place empty": not after a write; both after a reset that enables again
   pub written : (levels : ℕ) (ch : Channel) (es : List Event) (byte : ℕ)
       → statusBit c levels ch (andThen es (Write (registerOf ch 3) byte)) 2 ≡ false
-  pub enabled : (levels : ℕ) (ch : Channel) (es : List Event)
+  pub enabled : (levels : ℕ) (ch : Channel) (es : List Event) → inEcho (programmed ch es) ≡ false
       → (statusBit c levels ch (andThen es (Write (registerOf ch 2) 52)) 2 ≡ true)
       × (statusBit c levels ch (andThen es (Write (registerOf ch 2) 52)) 3 ≡ true)
+  -- order 2, of automatic echo and "the same echo" of remote loopback: "TxRDY and TxEMT read 0"
+  pub echoing : (levels : ℕ) (ch : Channel) (es : List Event) → inEcho (programmed ch es) ≡ true
+      → (statusBit c levels ch es 2 ≡ false) × (statusBit c levels ch es 3 ≡ false)
 
 -- a pin's level, and which ISR bit OPCR may put on it
 abbrev pub sourceOf : ℕ → ℕ

@@ -1,7 +1,7 @@
 -- What the program has set, as the events alone tell it: each rule takes what was told so far and one event. No chip
 -- stands in it. Assumes nothing.
 use Prim.Native.Nat.{ℕ, _/_, _%_}
-use mathlib.Core.Bool.{Bool, true, false, not, _&&_}
+use mathlib.Core.Bool.{Bool, true, false, not, _&&_, _||_}
 use mathlib.Core.List.{List}
 use lib.Dec.{eqb}
 use Rattle.format.specs.Pick.{pick}
@@ -31,6 +31,10 @@ levelsThen x Tick = x
 
 abbrev pub levelsAfter : ℕ → List Event → ℕ
 levelsAfter levels es = over levelsThen levels es
+
+-- an accepted command of the channel: the write of register 2 or 10 that no 11 forbids
+abbrev pub commands : Channel → ℕ → ℕ → Bool
+commands ch n byte = eqb n (registerOf ch 2) && not (commandForbidden byte)
 
 -- ---- a channel's mode registers and pointer, CSR and enables ----
 
@@ -104,3 +108,28 @@ programmedThen ch p Tick = p
 -- since a chip reset
 abbrev pub programmed : Channel → List Event → Programmed
 programmed ch es = over (programmedThen ch) unprogrammed es
+
+-- ---- order 2: a channel's mode ----
+
+-- MR2 bits 7-6: 00 normal, 01 automatic echo, 10 local loopback, 11 remote loopback
+abbrev pub modeBits : Programmed → ℕ
+modeBits p = p .mr2 / 64 % 4
+
+abbrev pub inNormal : Programmed → Bool
+inNormal p = eqb (modeBits p) 0
+
+abbrev pub inLocal : Programmed → Bool
+inLocal p = eqb (modeBits p) 2
+
+abbrev pub inRemote : Programmed → Bool
+inRemote p = eqb (modeBits p) 3
+
+-- "Remote loopback: the same echo"
+abbrev pub inEcho : Programmed → Bool
+inEcho p = eqb (modeBits p) 1 || inRemote p
+
+-- "A mode change": an accepted write to MR2, where the pointer is, of other bits 7-6 than those in force
+abbrev pub modeChanges : Channel → Programmed → ℕ → ℕ → Bool
+modeChanges ch p n byte =
+    eqb n (registerOf ch 0)
+    && (p .moved && (not (mr2NotModelled byte) && not (eqb (byte / 64 % 4) (modeBits p))))

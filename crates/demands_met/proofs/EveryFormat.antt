@@ -28,7 +28,7 @@ use Rattle.events.specs.declared.events.Event.{Event}
 use Rattle.events.specs.declared.events.Event.the-variants.{Write, Pins}
 use Rattle.demands.specs.Chip.{Channel, ofChannel, registerOf, andThen, over, statusBit, eachOf}
 use Rattle.demands.specs.Chip.Channel.{A, B}
-use Rattle.demands.specs.Told.{levelsThen, levelsAfter, Programmed, unprogrammed, programmedThen, programmed}
+use Rattle.demands.specs.Told.{levelsThen, levelsAfter, Programmed, unprogrammed, programmedThen, programmed, inLocal, inRemote}
 use Rattle.demands.specs.Delivery.{linesAt, linesFrom, fateOf, ledgerFrom, ledger, readFrom, held}
 use Rattle.demands.specs.ReadBack.{Listens, undisturbed, carried, formatAfter, ReadBack}
 use Rattle.demands.proofs.Laws.Told.{over-then}
@@ -58,6 +58,9 @@ heard ch (level ∷ ls) = Pins (low ch level) ∷ Pins (high ch level) ∷ heard
 pub record Clocked (p : Programmed) : Type 0 where
   pub code : p .csr / 16 ≡ 14
   pub enabled : p .receives ≡ true
+  -- order 2: "in normal mode or automatic echo"
+  pub local : inLocal p ≡ false
+  pub remote : inRemote p ≡ false
 
 low-clock : (ch : Channel) (level : Bool) → hasBit (low ch level) (ofChannel ch 4 2) ≡ false
 unfolding hasBit pick
@@ -93,7 +96,7 @@ falls-silent : (levels : ℕ) (ch : Channel) (es : List Event) (x : ℕ) → Clo
 unfolding linesAt pick
 falls-silent levels ch es x k down =
     let code : 13 < programmed ch es .csr / 16 = rw (k .code) (omega arith) in
-    rw (pulses .pin receives ch levels es (Pins x) code, down, and-false, and-false)
+    rw (k .enabled, k .local, k .remote, pulses .pin receives ch levels es (Pins x) code, down, and-false)
 
 -- and high: the level on RxD is
 rises-heard : (levels : ℕ) (ch : Channel) (es : List Event) (x : ℕ) → Clocked (programmed ch es)
@@ -102,7 +105,7 @@ rises-heard : (levels : ℕ) (ch : Channel) (es : List Event) (x : ℕ) → Cloc
 unfolding linesAt pick
 rises-heard levels ch es x k down up =
     let code : 13 < programmed ch es .csr / 16 = rw (k .code) (omega arith) in
-    rw (pulses .pin receives ch levels es (Pins x) code, k .enabled, down, up, levels-on levels es x, k .code)
+    rw (k .enabled, k .local, k .remote, pulses .pin receives ch levels es (Pins x) code, down, up, levels-on levels es x, k .code)
 
 -- what the pulses find, in the format that MR1 chooses
 pub found : (levels : ℕ) (ch : Channel) (es : List Event) → Clocked (programmed ch es) → (ls : List Bool)
@@ -156,7 +159,7 @@ listening-told ch mr1 m =
     ∙ told-on ch (enabling ch mr1) (low ch true) ∙ set-told ch mr1 (modelled mr1 m)
 
 told-clocked : (mr1 : ℕ) → Clocked (told mr1)
-told-clocked mr1 = record { code = refl; enabled = refl }
+told-clocked mr1 = record { code = refl; enabled = refl; local = refl; remote = refl }
 
 -- idle, and nothing has arrived
 record Quiet (l : Ledger) : Type 0 where

@@ -1,4 +1,4 @@
--- What ReadsBack supposes of a sender is met for every MR1 and MR2 that are modelled, every byte and either channel, on its pin's clock. So what it
+-- What ReadsBack supposes of a sender is met for every modelled MR1, every modelled MR2 of normal mode, every byte and either channel, on its pin's clock. So what it
 -- sends is read back by a receiver with the same format, on either channel of this chip or of another. Assumes nothing.
 use Prim.Native.Nat.{ℕ, zero, suc, _<_, _-_, _/_, _%_, _^_, _+_}
 use mathlib.Core.Path.{_≡_, refl, sym, _∙_, ap, subst}
@@ -14,17 +14,22 @@ use Rattle.frame.specs.Levels.{frame}
 use Rattle.frame.proofs.Laws.Levels.{frame-length, length-sixteen}
 use Rattle.character.specs.Character.{clean}
 use Rattle.clocks.specs.Pulses.Side.{transmits}
-use Rattle.transmitter.specs.Frames.{Startable}
+use Rattle.transmitter_state.specs.declared.state.Transmitter.{Transmitter}
+use Rattle.transmitter_state.specs.State as Transmitters
+use Rattle.transmitter_state.specs.Sending.{clearToSend}
+use Rattle.transmitter.specs.declared.transmitter.Input.the-variants as Inputs
+use Rattle.transmitter.specs.Transmitter.{afterInput}
+use Rattle.transmitter.specs.Frames.{after, Startable}
 use Rattle.bytes.specs.Bytes.{hasBit}
 use Rattle.events.specs.declared.events.Event.{Event}
 use Rattle.events.specs.declared.events.Event.the-variants.{Write, Pins}
-use Rattle.demands.specs.Chip.{Channel, ofChannel, registerOf, andThen, over, eachOf}
+use Rattle.demands.specs.Chip.{Channel, ofChannel, registerOf, andThen, over}
 use Rattle.demands.specs.Chip.Channel.{A, B}
-use Rattle.demands.specs.Told.{levelsAfter, Programmed, programmedThen, programmed}
+use Rattle.demands.specs.Told.{levelsAfter, Programmed, programmedThen, programmed, inNormal}
 use Rattle.demands.specs.Clocks.{pulsedAfter}
 use Rattle.demands.specs.Pulses.{edgeBy}
 use Rattle.demands.specs.Delivery.{held}
-use Rattle.demands.specs.Sending.{standing, inputsAt, inputsFrom, senderAfter, Starts, startedFrame, keepsSending, pulsesFrom, sentFrom}
+use Rattle.demands.specs.Sending.{standing, inputsAt, inputsFrom, senderAfter, Starts, startedFrame, keepsFrom, pulsesFrom, sentFrom}
 use Rattle.demands.specs.ReadBack.{formatAfter, SameFormat, ReadBack}
 use Rattle.demands.proofs.Laws.Formats.{none-same}
 use Rattle.demands.proofs.Pulses.{pulses}
@@ -35,13 +40,13 @@ use Rattle.demands_met.proofs.EveryFormat.{told-on, levels-on, heard, M
 
 -- ---- a sender ----
 
--- "MR2 bits 7-6 not 00, or bit 5 set": any other MR2
+-- any MR2 that writes accept ("MR2 .. bit 5 set" is refused) and that chooses normal mode, in which TxD shows what is sent
 pub record Modelled2 (mr2 : ℕ) : Type 0 where
   pub mode : mr2 / 64 % 4 ≡ 0
   pub five : mr2 / 32 % 2 ≡ 0
 
 modelled2 : (mr2 : ℕ) → Modelled2 mr2 → mr2NotModelled mr2 ≡ false
-modelled2 mr2 m = rw (m .mode, m .five)
+modelled2 mr2 m = rw (m .five)
 
 -- MR1, MR2, CSR code 14, the transmitter enabled, and a byte to send
 abbrev pub writing : Channel → ℕ → ℕ → ℕ → List Event
@@ -98,9 +103,10 @@ pulses-on levels ch es (suc n) csr =
     let twice : programmed ch gs .csr ≡ 238 = rw (told-on ch fs (ofChannel ch 244 220)) once in
     rw (back-none levels ch es csr, falls-pulse levels ch fs once (levels-on levels es 252), pulses-on levels ch gs n twice) (omega arith)
 
-keeps-on : (ch : Channel) (n : ℕ) → eachOf (keepsSending ch) (fallsOn ch n) ≡ true
-keeps-on ch zero = refl
-keeps-on ch (suc n) = keeps-on ch n
+keeps-on : (ch : Channel) (before : List Event) (n : ℕ) → keepsFrom ch before (fallsOn ch n) ≡ true
+unfolding keepsFrom
+keeps-on ch before zero = refl
+keeps-on ch before (suc n) = keeps-on ch (andThen (andThen before (Pins 252)) (falls ch)) n
 
 -- ---- all that is supposed of it ----
 
@@ -118,19 +124,39 @@ record Ready (ch : Channel) (mr1 mr2 x : ℕ) : Type 0 where
   startable : Startable (senderAfter 252 ch (writing ch mr1 mr2 x)) (standing 252 ch (writing ch mr1 mr2 x) (falls ch))
   holding : senderAfter 252 ch (writing ch mr1 mr2 x) .holding ≡ x
 
-by-computing : (ch : Channel) (mr1 mr2 x : ℕ) → Ready ch mr1 mr2 x
-unfolding computing inputsAt inputsFrom
-by-computing A mr1 mr2 x =
-    record { rests = refl; startable = record { idle = refl; enabled = refl; full = refl; clear = rw or-true }; holding = refl }
-by-computing B mr1 mr2 x =
-    record { rests = refl; startable = record { idle = refl; enabled = refl; full = refl; clear = rw or-true }; holding = refl }
+-- what the writes bring to it: the first of MR1 and MR2 finds the pointer at MR1, and the second changes no mode
+inputs-are : (ch : Channel) (mr1 mr2 x : ℕ) → mr1NotModelled mr1 ≡ false → mr2 / 64 % 4 ≡ 0
+    → inputsFrom 252 ch [] (writing ch mr1 mr2 x) ≡ Inputs.Enable ∷ Inputs.Write x ∷ []
+unfolding over programmedThen inputsAt inputsFrom pick
+inputs-are A mr1 mr2 x m z = rw (m, z, and-false)
+inputs-are B mr1 mr2 x m z = rw (m, z, and-false)
+
+by-computing : (ch : Channel) (mr1 mr2 x : ℕ) → mr1NotModelled mr1 ≡ false → mr2 / 64 % 4 ≡ 0 → Ready ch mr1 mr2 x
+unfolding computing
+by-computing ch mr1 mr2 x m z =
+    let t : Transmitter = Transmitters.withHolding (Transmitters.withEnabled Transmitters.freshTransmitter true) true x in
+    let sender : senderAfter 252 ch (writing ch mr1 mr2 x) ≡ t = ap (after afterInput Transmitters.freshTransmitter) (inputs-are ch mr1 mr2 x m z) in
+    record {
+      rests = rested ch;
+      startable = rw sender (record { idle = refl; enabled = refl; full = refl; clear = cleared ch });
+      holding = ap (λ (u : Transmitter). u .holding) sender;
+    }
+  where
+    rested : (ch : Channel) → levelsAfter 252 (writing ch mr1 mr2 x) ≡ 252
+    rested A = refl
+    rested B = refl
+
+    cleared : (ch : Channel) → clearToSend (standing 252 ch (writing ch mr1 mr2 x) (falls ch)) ≡ true
+    cleared A = rw or-true
+    cleared B = rw or-true
 
 some : (mr1 mr2 x : ℕ) → 1 + (length (frameOf mr1 mr2 x) - 1) ≡ length (frameOf mr1 mr2 x)
 some mr1 mr2 x = rw (frame-length true (formatOf mr1) (stopCodeOf mr2) x, length-sixteen (formatOf mr1) (stopCodeOf mr2)) (omega arith)
 
 pub record MetSender (ch : Channel) (mr1 mr2 x : ℕ) : Type 0 where
   pub starts : Starts 252 ch (writing ch mr1 mr2 x) (falls ch)
-  pub keeps : eachOf (keepsSending ch) (sending ch mr1 mr2 x) ≡ true
+  pub normal : inNormal (programmed ch (writing ch mr1 mr2 x)) ≡ true
+  pub keeps : keepsFrom ch (andThen (writing ch mr1 mr2 x) (falls ch)) (sending ch mr1 mr2 x) ≡ true
   pub whole : pulsesFrom 252 ch (writing ch mr1 mr2 x) (falls ch ∷ sending ch mr1 mr2 x)
       ≡ length (startedFrame 252 ch (writing ch mr1 mr2 x) (falls ch))
   pub sixteen : standing 252 ch (writing ch mr1 mr2 x) (falls ch) .sixteen ≡ true
@@ -143,12 +169,13 @@ met-sender ch mr1 mr2 x m n =
     let es : List Event = writing ch mr1 mr2 x in
     let told : programmed ch es ≡ written mr1 mr2 = writing-told ch mr1 mr2 x (modelled mr1 m) (modelled2 mr2 n) in
     let csr : programmed ch es .csr ≡ 238 = rw told in
-    let r : Ready ch mr1 mr2 x = by-computing ch mr1 mr2 x in
+    let r : Ready ch mr1 mr2 x = by-computing ch mr1 mr2 x (modelled mr1 m) (n .mode) in
     let pulse : pulsedAfter transmits ch 252 es (falls ch) ≡ true = falls-pulse 252 ch es csr (r .rests) in
     let on : programmed ch (andThen es (falls ch)) .csr ≡ 238 = rw (told-on ch es (ofChannel ch 244 220)) csr in
     record {
-      starts = record { pulse = pulse; startable = r .startable };
-      keeps = keeps-on ch (length (frameOf mr1 mr2 x) - 1);
+      starts = record { pulse = pulse; mode = rw (told, n .mode); startable = r .startable };
+      normal = rw (told, n .mode);
+      keeps = keeps-on ch (andThen es (falls ch)) (length (frameOf mr1 mr2 x) - 1);
       whole =
           rw (pulse, pulses-on 252 ch (andThen es (falls ch)) (length (frameOf mr1 mr2 x) - 1) on)
           (some mr1 mr2 x ∙ rw (told, r .holding));
@@ -178,7 +205,7 @@ sent-read here sender receiver mr1 mr2 other x m n o same =
     let back : ReadBack chip here receiver (listening receiver other) (heard receiver (onTxD sender mr1 mr2 x)) x =
     subst (λ (y : ℕ). ReadBack chip here receiver (listening receiver other) (heard receiver (onTxD sender mr1 mr2 x)) y) (s .holding)
     (reads-back .sent 252 here sender receiver (writing sender mr1 mr2 x) (sending sender mr1 mr2 x) (listening receiver other)
-    (heard receiver (onTxD sender mr1 mr2 x)) (falls sender) (s .starts) (s .keeps) (s .whole) (s .sixteen) (rw (s .format, r .format) same)
+    (heard receiver (onTxD sender mr1 mr2 x)) (falls sender) (s .starts) (s .normal) (s .keeps) (s .whole) (s .sixteen) (rw (s .format, r .format) same)
     (r .listens) (r .undisturbed) (r .found ∙ rw (r .format))) in
     record {
       back = back;

@@ -5,3 +5,4 @@ pub mod Modes
 pub mod Wired
 pub mod EveryFormat
 pub mod EverySender
+pub mod Looped

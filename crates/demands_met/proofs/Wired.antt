@@ -33,13 +33,15 @@ use Rattle.demands.specs.Clocks as inDemands
 use Rattle.demands.specs.Clocks.{frontThen, frontAfter, pulsedAfter}
 use Rattle.demands.specs.Cases.{heard, listening, arrives}
 use Rattle.demands.specs.Delivery.{linesAt, linesFrom, fateOf, ledgerFrom, held}
-use Rattle.demands.specs.Sending.{standing, inputsAt, inputsFrom, senderAfter, Starts, startedFrame, keepsSending, pulsesFrom, sentFrom}
+use Rattle.demands.specs.Told.{programmed, inNormal}
+use Rattle.front_modes.specs.Modes.{txdOf}
+use Rattle.demands.specs.Sending.{standing, inputsAt, inputsFrom, senderAfter, Starts, startedFrame, keepsFrom, pulsesFrom, sentFrom}
 use Rattle.demands.specs.ReadBack.{Listens, undisturbed, carried, formatAfter, ReadBack}
 use Rattle.demands.proofs.Laws.Run.{runAt, feedsFrom}
 use Rattle.demands.proofs.Laws.Lines.{lines-from}
 use Rattle.demands.proofs.Laws.Buffer.{held-queue}
 use Rattle.demands.proofs.Laws.Told.{over-then}
-use Rattle.demands.proofs.Laws.Senders.{sender-told, txd-shown}
+use Rattle.demands.proofs.Laws.Echoes.{txd-line}
 use Rattle.demands.proofs.Delivery.{receiver-after}
 use Rattle.demands.proofs.ReadBack.{reads-back, sent-equal}
 use Rattle.demands.proofs.Laws.Looks.{chip}
@@ -108,7 +110,8 @@ before k es = andThen (until k es) (k .at true) ++ k .tail true
 
 pub record Hears (k : Clock) (es : List Event) : Type 0 where
   pub starts : Starts 255 A (until k es) (k .at true)
-  pub keeps : eachOf (keepsSending A) (rest k) ≡ true
+  pub normal : inNormal (programmed A (until k es)) ≡ true
+  pub keeps : keepsFrom A (andThen (until k es) (k .at true)) (rest k) ≡ true
   pub whole : pulsesFrom 255 A (until k es) (k .at true ∷ rest k) ≡ length (startedFrame 255 A (until k es) (k .at true))
   pub sixteen : standing 255 A (until k es) (k .at true) .sixteen ≡ true
   pub formats : formatAfter A (until k es) ≡ formatAfter B (before k es)
@@ -126,7 +129,7 @@ pub record Hears (k : Clock) (es : List Event) : Type 0 where
 pub read-back : (k : Clock) (es : List Event) → Hears k es → ReadBack chip 255 B (before k es) (along k levelsOf85) 85
 read-back k es h =
     subst (λ (x : ℕ). ReadBack chip 255 B (before k es) (along k levelsOf85) x) (h .holding)
-    (sent-equal chip reads-back 255 255 A B (until k es) (rest k) (before k es) (along k levelsOf85) (k .at true) (h .starts) (h .keeps)
+    (sent-equal chip reads-back 255 255 A B (until k es) (rest k) (before k es) (along k levelsOf85) (k .at true) (h .starts) (h .normal) (h .keeps)
     (h .whole) (h .sixteen) (h .formats) (h .listens) (h .undisturbed) (h .found ∙ ap (carried (at16 (formatAfter B (before k es)))) (sym (h .sent))))
 
 -- ---- by the front's run ----
@@ -139,7 +142,7 @@ pulsesOver ch f (e ∷ es) = bit (inDemands.pulsedBy transmits ch f e) + pulsesO
 unfoldable sentOver : Channel → Front → List Event → List Bool
 sentOver ch f [] = []
 sentOver ch f (e ∷ es) =
-    pick (inDemands.pulsedBy transmits ch f e) (inDemands.sideOf ch (frontThen f e) .transmitter .txd ∷ []) [] ++ sentOver ch (frontThen f e) es
+    pick (inDemands.pulsedBy transmits ch f e) (txdOf (inDemands.sideOf ch (frontThen f e)) ∷ []) [] ++ sentOver ch (frontThen f e) es
 
 pulses-over : (pins : ℕ) (ch : Channel) (before es : List Event) → pulsesFrom pins ch before es ≡ pulsesOver ch (frontAfter pins before) es
 unfolding pulsesFrom pulsesOver
@@ -152,8 +155,7 @@ sent-over pins ch before [] = refl
 sent-over pins ch before (e ∷ es) =
     rw (
       sent-over pins ch (andThen before e) es,
-      txd-shown pins ch (andThen before e),
-      sender-told pins ch (andThen before e),
+      txd-line pins ch (andThen before e),
       over-then frontThen (frontAt pins) before e,
     )
 
@@ -168,7 +170,7 @@ sends = Write 0 19 ∷ Write 0 7 ∷ Write 1 204 ∷ Write 2 4 ∷ Write 3 85 �
 
 pub record Frames : Type 0 where
   pub starts : Starts 255 A sends Tick
-  pub keeps : eachOf (keepsSending A) (replicate 959 Tick) ≡ true
+  pub keeps : keepsFrom A (andThen sends Tick) (replicate 959 Tick) ≡ true
   -- 160 pulses, one in 6 ticks from the start on; the next one comes when the last level has stood as long, and nothing is held for it
   pub whole : length (startedFrame 255 A sends Tick) ≡ 160
   pub pulses : pulsesFrom 255 A sends (replicate 960 Tick) ≡ 160
@@ -189,11 +191,12 @@ pub record Wired : Type 0 where
   pub frames : Frames
 
 pub wired-examples : Wired
-unfolding computing heard linesOver feedsFrom linesAt linesFrom fateOf ledgerFrom inputsAt inputsFrom pulsesOver sentOver wired
+unfolding computing heard linesOver feedsFrom linesAt linesFrom fateOf ledgerFrom inputsAt inputsFrom keepsFrom pulsesOver sentOver wired
 wired-examples =
     record {
       overDivider = record {
-        starts = record { pulse = refl; startable = record { idle = refl; enabled = refl; full = refl; clear = refl } };
+        starts = record { pulse = refl; mode = refl; startable = record { idle = refl; enabled = refl; full = refl; clear = refl } };
+        normal = refl;
         keeps = refl;
         whole = pulses-over 255 A (until divider (programs 204)) (divider .at true ∷ rest divider) ∙ refl;
         sixteen = refl;
@@ -207,7 +210,8 @@ wired-examples =
         held = held-by _ refl;
       };
       overTimer = record {
-        starts = record { pulse = refl; startable = record { idle = refl; enabled = refl; full = refl; clear = refl } };
+        starts = record { pulse = refl; mode = refl; startable = record { idle = refl; enabled = refl; full = refl; clear = refl } };
+        normal = refl;
         keeps = refl;
         whole = pulses-over 255 A (until timer timed) (timer .at true ∷ rest timer) ∙ refl;
         sixteen = refl;
@@ -221,7 +225,8 @@ wired-examples =
         held = held-by _ refl;
       };
       overPin = record {
-        starts = record { pulse = refl; startable = record { idle = refl; enabled = refl; full = refl; clear = refl } };
+        starts = record { pulse = refl; mode = refl; startable = record { idle = refl; enabled = refl; full = refl; clear = refl } };
+        normal = refl;
         keeps = refl;
         whole = pulses-over 255 A (until pin (programs 238 ++ Pins 251 ∷ [])) (pin .at true ∷ rest pin) ∙ refl;
         sixteen = refl;
@@ -235,7 +240,7 @@ wired-examples =
         held = held-by _ refl;
       };
       frames = record {
-        starts = record { pulse = refl; startable = record { idle = refl; enabled = refl; full = refl; clear = refl } };
+        starts = record { pulse = refl; mode = refl; startable = record { idle = refl; enabled = refl; full = refl; clear = refl } };
         keeps = refl;
         whole = refl;
         pulses = pulses-over 255 A sends (replicate 960 Tick) ∙ refl;

@@ -57,7 +57,7 @@ abbrev pub withFront : Device → Front → Device
 withFront d f = record { front = f; a = d .a; b = d .b }
 
 -- another MR2 of channel A
-abbrev withMode2 : ℕ → Device → Device
+abbrev pub withMode2 : ℕ → Device → Device
 withMode2 mr2 d =
     let s : Side = d .front .a in
     withFront d (withSides (d .front) (withModes s (s .mr1) mr2 (s .moved)) (d .front .b) (d .front .timer))
@@ -247,7 +247,7 @@ resetKeepsVector d e =
 -- "CTS (if chosen; ..) is low": transmitter A's pulses find it not chosen
 abbrev pub ignoresCts : Step
 ignoresCts d e =
-    let x : Answer = stepOf (withMode2 (d .front .a .mr2 % 16) d) e in
+    let x : Answer = stepOf (withMode2 (d .front .a .mr2 / 64 * 64 + d .front .a .mr2 % 16) d) e in
     pick (isClock e) (withState x (withMode2 (d .front .a .mr2) (x .state))) (stepOf d e)
 
 -- ---- frame requests ----

@@ -36,18 +36,18 @@ abbrev firstMarks : List (Character × Fate) → Marks
 firstMarks l = getD l 0 (noCharacter, Held) .0 .marks
 
 -- by the ledger: the bytes that arrived, less those lost
-abbrev due : Channel → List Event → List ℕ
+abbrev pub due : Channel → List Event → List ℕ
 due ch es = bytesOf (map known (live (ledger ch 255 es .entries)))
 
 -- by the answers: the bytes that were read, and then those held
-abbrev had : Chip → Channel → List Event → List ℕ
+abbrev pub had : Chip → Channel → List Event → List ℕ
 had c ch es = bytesOf (fatedBy WasRead (readFrom c 255 ch [] es) ++ fatedBy Held (held c 255 ch es))
 
 due-had : {c : Chip} → Demand3 c → (ch : Channel) (es : List Event) → due ch es ≡ had c ch es
 due-had h ch es = ap bytesOf (h 255 ch es .fates)
 
 -- so that they are the same at each place
-differs : {c : Chip} (ch : Channel) (es : List Event) {a b : List ℕ} (k : ℕ) → due ch es ≡ a → had c ch es ≡ b
+pub differs : {c : Chip} (ch : Channel) (es : List Event) {a b : List ℕ} (k : ℕ) → due ch es ≡ a → had c ch es ≡ b
     → (getD a k 0 ≡ getD b k 0 → ⊥) → Demand3 c → ⊥
 differs ch es k p q unlike h = unlike (ap (λ (l : List ℕ). getD l k 0) (sym p ∙ due-had h ch es ∙ q))
 
@@ -59,7 +59,7 @@ arrive [] = []
 arrive (x ∷ xs) = heard (frame false (formatOf 16) 7 x) ++ arrive xs
 
 -- MR1 16, CSR code 15, and the receiver enabled; then one high, and they arrive
-abbrev line : List ℕ → List Event
+abbrev pub line : List ℕ → List Event
 line xs = heardAt 16 [] ++ arrive xs
 
 abbrev two : List Event

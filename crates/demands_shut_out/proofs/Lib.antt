@@ -8,4 +8,5 @@ pub mod Delivery
 pub mod Fresh
 pub mod Sending
 pub mod ReadBack
+pub mod Loopback
 pub mod Cases

@@ -18,10 +18,11 @@ use Rattle.character.specs.Character.{noCharacter}
 use Rattle.receiver.proofs.Wrong.{keepsNothing}
 use Rattle.events.specs.declared.events.Event.{Event}
 use Rattle.events.specs.declared.events.Event.the-variants.{Write, Pins}
-use Rattle.demands.specs.Chip.{eachOf}
+use Rattle.demands.specs.Chip.{eachOf, andThen}
 use Rattle.demands.specs.Chip.Channel.{A}
 use Rattle.demands.specs.Delivery.{linesAt, linesFrom, fateOf, ledgerFrom, ledger, heldFor, held}
-use Rattle.demands.specs.Sending.{inputsAt, inputsFrom, senderAfter, standing, Starts, startedFrame, keepsSending, pulsesFrom, sentFrom}
+use Rattle.demands.specs.Told.{programmed, inNormal}
+use Rattle.demands.specs.Sending.{inputsAt, inputsFrom, senderAfter, standing, Starts, startedFrame, keepsFrom, pulsesFrom, sentFrom}
 use Rattle.demands.specs.ReadBack.{Listens, undisturbed, carried, formatAfter, SameFormat, ReadBack, ReadsBack}
 use Rattle.demands.specs.Cases.{heard}
 use Rattle.demands_shut_out.proofs.Chips.{chipWith, cutsShort, neverSends, falls}
@@ -67,7 +68,8 @@ record Computed : Type 0 where
   held-keepsNothing : held (chipWith keepsNothing) 255 A (listening ++ handed) ≡ []
   held-cutsShort : getD (held cutsShort 255 A (listening ++ handed)) 0 noCharacter .byte ≡ 15
   starts : Starts 255 A about falls
-  keeps : eachOf (keepsSending A) (fallsOn 112) ≡ true
+  normal : inNormal (programmed A about) ≡ true
+  keeps : keepsFrom A (andThen about falls) (fallsOn 112) ≡ true
   sixteen : standing 255 A about falls .sixteen ≡ true
   format : formatAfter A about ≡ formatAfter A listening
   quiet-highs : eachOf (undisturbed A) highs ≡ true
@@ -78,7 +80,7 @@ record Computed : Type 0 where
   whole : pulsesFrom 255 A about (falls ∷ fallsOn 112) ≡ length (startedFrame 255 A about falls)
 
 computed : Computed
-unfolding computing linesAt linesFrom fateOf ledgerFrom heldFor heard keepsNothing inputsAt inputsFrom pulsesFrom sentFrom arrivals
+unfolding computing linesAt linesFrom fateOf ledgerFrom heldFor heard keepsNothing inputsAt inputsFrom keepsFrom pulsesFrom sentFrom arrivals
 computed =
     record {
       quiet = refl;
@@ -88,7 +90,8 @@ computed =
       carries = refl;
       held-keepsNothing = refl;
       held-cutsShort = refl;
-      starts = record { pulse = refl; startable = record { idle = refl; enabled = refl; full = refl; clear = refl } };
+      starts = record { pulse = refl; mode = refl; startable = record { idle = refl; enabled = refl; full = refl; clear = refl } };
+      normal = refl;
       keeps = refl;
       sixteen = refl;
       format = refl;
@@ -122,7 +125,7 @@ no-keepsNothing h =
 pub no-neverSends : ReadsBack neverSends → ⊥
 no-neverSends h =
     let x : ReadBack neverSends 255 A listening highs (senderAfter 255 A about .holding) =
-    sent-equal neverSends h 255 255 A A about (fallsOn 112) listening highs falls (computed .starts) (computed .keeps) (computed .whole)
+    sent-equal neverSends h 255 255 A A about (fallsOn 112) listening highs falls (computed .starts) (computed .normal) (computed .keeps) (computed .whole)
     (computed .sixteen) (computed .format) (computed .listens-neverSends) (computed .quiet-highs)
     (computed .carries-highs ∙ ap (carried (at16 (formatAfter A listening))) (sym (computed .sent-neverSends)))
     in

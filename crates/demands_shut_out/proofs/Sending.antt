@@ -18,7 +18,7 @@ use Rattle.chip_laws.specs.Table.{Step}
 use Rattle.chip_laws.proofs.Wrong as Wrong
 use Rattle.demands.specs.Chip.{chipOf}
 use Rattle.demands.specs.Chip.Channel.{A, B}
-use Rattle.demands.specs.Sending.{inputsAt, inputsFrom, Transmits, Starts, pulsesFrom, Sends}
+use Rattle.demands.specs.Sending.{inputsAt, inputsFrom, Transmits, Starts, keepsFrom, pulsesFrom, Sends}
 use Rattle.demands_shut_out.proofs.Chips.{isWrite, isWriteOf, neverSends, idlesAt, leadsTo, shownBy, keepsFirst, ignoresCts, falls}
 use Rattle.demands.proofs.Computing.{computing}
 
@@ -139,7 +139,7 @@ pub record WrongSending : Type 0 where
   pub no-ignoresCts : Sends (chipOf ignoresCts) → ⊥
 
 pub wrong-sending : WrongSending
-unfolding computing inputsAt inputsFrom pulsesFrom
+unfolding computing inputsAt inputsFrom keepsFrom pulsesFrom
 wrong-sending =
     record {
       no-lowAtRest = λ h. true≢false (sym (h .line 255 A []));
@@ -150,19 +150,19 @@ wrong-sending =
       no-takesDisabled = λ h. true≢false (sym (ap (λ (x : Seen). x .lines .txda) (h .ignored 255 85 A [] (enabled 7 ++ falls ∷ []) (Read 1) refl)));
       no-keepsFirst-replaced = λ h. true≢false (ap (λ (x : Seen). x .lines .txda) (h .replaced 255 85 84 A (enabled 7) lowest (Read 1)));
       no-ignoresCts-waits = λ h. true≢false (h .waits 255 A (sends 23) falls refl refl refl);
-      no-readyLate-goes = λ h. true≢false (sym (h .goes 255 A (sends 7) falls refl refl refl refl (λ k. absurd (true≢false (sym k)))));
+      no-readyLate-goes = λ h. true≢false (sym (h .goes 255 A (sends 7) falls refl refl refl refl refl (λ k. absurd (true≢false (sym k)))));
       no-readyLate-leaves = λ h. true≢false (sym (h .leaves 255 A (sends 7) falls starts));
       no-emptyAsReady-busy = λ h. true≢false (h .busy 255 A (sends 7) [] falls starts refl zero-ten);
-      no-neverSends = λ h. true≢false (h .level 255 A (sends 7) [] falls starts refl zero-ten);
-      no-keepsFirst = λ h. true≢false (h .level 255 A replaced (Pins 255 ∷ falls ∷ []) falls starts-replaced refl one-ten);
-      no-ignoresCts = λ h. true≢false (h .level 255 A cleared [] fallsClear starts-cleared refl zero-ten);
+      no-neverSends = λ h. true≢false (h .level 255 A (sends 7) [] falls starts refl refl zero-ten);
+      no-keepsFirst = λ h. true≢false (h .level 255 A replaced (Pins 255 ∷ falls ∷ []) falls starts-replaced refl refl one-ten);
+      no-ignoresCts = λ h. true≢false (h .level 255 A cleared [] fallsClear starts-cleared refl refl zero-ten);
     }
   where
     starts : Starts 255 A (sends 7) falls
-    starts = record { pulse = refl; startable = record { idle = refl; enabled = refl; full = refl; clear = refl } }
+    starts = record { pulse = refl; mode = refl; startable = record { idle = refl; enabled = refl; full = refl; clear = refl } }
 
     starts-replaced : Starts 255 A replaced falls
-    starts-replaced = record { pulse = refl; startable = record { idle = refl; enabled = refl; full = refl; clear = refl } }
+    starts-replaced = record { pulse = refl; mode = refl; startable = record { idle = refl; enabled = refl; full = refl; clear = refl } }
 
     starts-cleared : Starts 255 A cleared fallsClear
-    starts-cleared = record { pulse = refl; startable = record { idle = refl; enabled = refl; full = refl; clear = refl } }
+    starts-cleared = record { pulse = refl; mode = refl; startable = record { idle = refl; enabled = refl; full = refl; clear = refl } }

@@ -22,7 +22,7 @@ pub enum Effect {
 }
 
 // What bits 1-0 of a command then do to it: `Enables` one that was off. "Enabling it again changes
-// nothing.": that is `Stays`.
+// nothing.": that is `Stays`. Order 2: a mode change "leaves an enabled receiver as just enabled", by `Enables`.
 pub enum Enabling {
     Stays,
     Enables,

@@ -32,8 +32,8 @@ no-sixForFive h = omega (arith, h 0)
 no-noParityRefused : ((mr1 : ℕ) → (eqb (mr1 / 128 % 2) 1 || eqb (mr1 / 8 % 4) 2) ≡ mr1NotModelled mr1) → ⊥
 no-noParityRefused h = true≢false (h 16)
 
--- "MR2 bits 7-6 not 00, or bit 5 set": this one refuses bit 4, CTS
-no-ctsRefused : ((mr2 : ℕ) → (not (eqb (mr2 / 64 % 4) 0) || eqb (mr2 / 16 % 2) 1) ≡ mr2NotModelled mr2) → ⊥
+-- "MR2 .. bit 5 set": this one refuses bit 4, CTS, too
+no-ctsRefused : ((mr2 : ℕ) → (eqb (mr2 / 32 % 2) 1 || eqb (mr2 / 16 % 2) 1) ≡ mr2NotModelled mr2) → ⊥
 no-ctsRefused h = true≢false (h 16)
 
 -- "3-0 stop code c"
@@ -105,9 +105,16 @@ no-forcedComplemented :
 unfolding pick
 no-forcedComplemented h = true≢false (ap (λ (l : List Bool). getD l 0 false) (h .forced-low 8 0 refl refl))
 
--- "MR2 bits 7-6 not 00, or bit 5 set": 0x40 accepted
-no-mr2Bit6Accepted : Modelled mr1NotModelled (λ (mr2 : ℕ). eqb (mr2 / 128 % 2) 1 || eqb (mr2 / 32 % 2) 1) → ⊥
-no-mr2Bit6Accepted h = omega (arith, ap length (h .second))
+-- order 2: "5 no longer covers MR2 bits 7-6.": remote loopback refused, and all modes but 00, as before the order
+no-remoteRefused : Modelled mr1NotModelled (λ (mr2 : ℕ). eqb (mr2 / 64 % 4) 3 || eqb (mr2 / 32 % 2) 1) → ⊥
+no-remoteRefused h = omega (arith, ap length (h .second))
+
+no-modesRefused : Modelled mr1NotModelled (λ (mr2 : ℕ). not (eqb (mr2 / 64 % 4) 0) || eqb (mr2 / 32 % 2) 1) → ⊥
+no-modesRefused h = omega (arith, ap length (h .second))
+
+-- "MR2 .. bit 5 set": let through
+no-mr2Bit5Accepted : Modelled mr1NotModelled (λ (mr2 : ℕ). false) → ⊥
+no-mr2Bit5Accepted h = omega (arith, ap length (h .second))
 
 -- "MR1 bit 7 set or bits 4-3 = 11": 10 refused, no parity
 no-mr1NoneRefused : Modelled (λ (mr1 : ℕ). eqb (mr1 / 128 % 2) 1 || eqb (mr1 / 16 % 2) 1) mr2NotModelled → ⊥

@@ -1,6 +1,6 @@
 -- What MR1 and MR2 choose. Assumes nothing.
 use Prim.Native.Nat.{ℕ, _+_, _/_, _%_}
-use mathlib.Core.Bool.{Bool, not, _||_}
+use mathlib.Core.Bool.{Bool, _||_}
 use lib.Dec.{eqb}
 use Rattle.format.specs.declared.format.Format.{Format}
 
@@ -8,9 +8,9 @@ use Rattle.format.specs.declared.format.Format.{Format}
 abbrev pub mr1NotModelled : ℕ → Bool
 mr1NotModelled mr1 = eqb (mr1 / 128 % 2) 1 || eqb (mr1 / 8 % 4) 3
 
--- "MR2 bits 7-6 not 00, or bit 5 set"
+-- "MR2 .. bit 5 set"; order 2: "5 no longer covers MR2 bits 7-6."
 abbrev pub mr2NotModelled : ℕ → Bool
-mr2NotModelled mr2 = not (eqb (mr2 / 64 % 4) 0) || eqb (mr2 / 32 % 2) 1
+mr2NotModelled mr2 = eqb (mr2 / 32 % 2) 1
 
 -- "MR1: .. 4-3 parity 00 with, 01 forced, 10 none; 2 odd, or forced high; 1-0 data bits less 5."
 unfoldable pub formatOf : ℕ → Format

@@ -22,11 +22,11 @@ pub fn mr1_not_modelled(mr1: u8) -> bool
     (mr1 / 128 % 2 == 1) | (mr1 / 8 % 4 == 3)
 }
 
-// "MR2 bits 7-6 not 00, or bit 5 set"
+// "MR2 .. bit 5 set"; order 2: "5 no longer covers MR2 bits 7-6".
 pub fn mr2_not_modelled(mr2: u8) -> bool
     ensures { λ r. ⌜ r ≡ mr2NotModelled mr2 ⌝ }
 {
-    (mr2 / 64 % 4 != 0) | (mr2 / 32 % 2 == 1)
+    mr2 / 32 % 2 == 1
 }
 
 // "MR1: .. 4-3 parity 00 with, 01 forced, 10 none; 2 odd, or forced high; 1-0 data bits less 5."

@@ -1,7 +1,7 @@
 -- Wrong answers, each shut out by a definition: a routine that gave it would not meet its contract. Assumes nothing.
 use Prim.Native.Nat.{ℕ, _+_, _-_, _/_, _%_}
 use mathlib.Core.Path.{_≡_, refl, ap}
-use mathlib.Core.Bool.{Bool, true, not, _&&_, true≢false, false≢true}
+use mathlib.Core.Bool.{Bool, true, false, not, _&&_, _||_, true≢false, false≢true}
 use native.Mathlib.Omega.{arith}
 use lib.Dec.{eqb}
 use Rattle.format.specs.Pick.{pick}
@@ -11,7 +11,7 @@ use Rattle.transmitter_state.specs.State.{freshTransmitter}
 use Rattle.transmitter.specs.Commands.{enabledOf, breakEnded, breakAsked}
 use Rattle.transmitter.specs.Transmitter.{afterInput}
 use Rattle.front_side.specs.declared.side.Side.{Side}
-use Rattle.front_side.specs.Side.{freshSide, withTransmitter, pointedAt}
+use Rattle.front_side.specs.Side.{freshSide, withEnabled, withTransmitter, withEcho, pointedAt}
 use Rattle.front_commands.specs.Commands.{transmitterEffect, receiverEffect, transmitterEnabling, receiverEnabling, enabledThen, sideCommanded, commandFeed}
 use Rattle.front_commands.proofs.Laws.Numbers.{Commands}
 
@@ -57,3 +57,30 @@ no-oneAndTwo h = true≢false (h .pointer (pointedAt freshSide true) 16)
 no-bit7Counts : Commands (λ (s : Side) (byte : ℕ). pick (eqb (byte / 128 % 2) 1) s (sideCommanded s byte)) commandFeed → ⊥
 unfolding freshSide pick
 no-bit7Counts h = true≢false (h .pointer (pointedAt freshSide true) 144)
+
+-- ---- order 2: the echoed level ----
+
+-- an enabled receiver's, at a low
+abbrev lowEcho : Side
+lowEcho = withEcho (withEnabled freshSide true) false
+
+-- "(high while disabled)": a disable that leaves it, a reset that enables again (0x21) and leaves it, and an enable of a receiver that is off
+no-disableKeepsEcho : Commands (λ (s : Side) (byte : ℕ). withEcho (sideCommanded s byte) (s .echo || eqb (byte / 16 % 8) 2 || eqb (byte / 16 % 8) 3)) commandFeed → ⊥
+unfolding sideCommanded freshSide pick
+no-disableKeepsEcho h = false≢true (h .echo lowEcho 2)
+
+no-resetKeepsEcho : Commands (λ (s : Side) (byte : ℕ). withEcho (sideCommanded s byte) (s .echo || eqb (byte / 16 % 8) 3 || eqb (byte % 4) 2)) commandFeed → ⊥
+unfolding sideCommanded freshSide pick
+no-resetKeepsEcho h = false≢true (h .echo lowEcho 33)
+
+no-enableKeepsEcho :
+    Commands (λ (s : Side) (byte : ℕ). withEcho (sideCommanded s byte) (s .echo || eqb (byte / 16 % 8) 2 || eqb (byte / 16 % 8) 3 || eqb (byte % 4) 2))
+    commandFeed
+    → ⊥
+unfolding sideCommanded freshSide pick
+no-enableKeepsEcho h = false≢true (h .echo (withEcho freshSide false) 1)
+
+-- "3 reset transmitter (disabled, all dropped, TxD high)"
+no-transmitterKeepsEcho : Commands (λ (s : Side) (byte : ℕ). withEcho (sideCommanded s byte) (s .echo || eqb (byte / 16 % 8) 2 || eqb (byte % 4) 2)) commandFeed → ⊥
+unfolding sideCommanded freshSide pick
+no-transmitterKeepsEcho h = false≢true (h .echo lowEcho 48)

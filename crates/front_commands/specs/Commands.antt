@@ -14,7 +14,7 @@ use Rattle.transmitter.specs.declared.transmitter.Input.{Input}
 use Rattle.transmitter.specs.declared.transmitter.Input.the-variants as Transmitters
 use Rattle.transmitter.specs.Transmitter.{afterInput}
 use Rattle.front_side.specs.declared.side.Side.{Side}
-use Rattle.front_side.specs.Side.{withEnabled, withTransmitter, pointedAt}
+use Rattle.front_side.specs.Side.{withEnabled, withTransmitter, withEcho, pointedAt}
 
 -- ---- bits 6-4 ----
 
@@ -55,16 +55,25 @@ receiverEnabling enabled bits = pick (eqb bits 1) (pick enabled Stays Enables) (
 abbrev pub enabledAfter : Bool → ℕ → Bool
 enabledAfter enabled bits = eqb bits 1 || (enabled && not (eqb bits 2))
 
+-- ---- the echoed level ----
+
+-- order 2, of a receiver that is enabled or not, bits 6-4 and 1-0: "(high while disabled)", so it is high of one that is
+-- off, and a reset or a disable raises it; "3 reset transmitter (.., TxD high)"
+abbrev pub echoAfter : Bool → Bool → ℕ → ℕ → Bool
+echoAfter enabled echo effect bits = not enabled || echo || eqb effect 2 || eqb effect 3 || eqb bits 2
+
 -- ---- the command ----
 
 -- the side; "1 pointer to MR1"
 unfoldable pub sideCommanded : Side → ℕ → Side
 sideCommanded s byte =
     pointedAt
+    (withEcho
     (withEnabled
     (withTransmitter s (afterInput (afterInput (s .transmitter) (transmitterEffect (effectBits byte)))
     (transmitterEnabling (byte / 4 % 4))))
     (enabledAfter (enabledThen (s .enabled) (effectBits byte)) (byte % 4)))
+    (echoAfter (s .enabled) (s .echo) (effectBits byte) (byte % 4)))
     (s .moved && not (eqb (effectBits byte) 1))
 
 -- the receiver

@@ -9,7 +9,7 @@ use transmitter::step_transmitter;
 ghost use mathlib.Core.Path.{_≡_};
 ghost use Rattle.front_commands.specs.Commands.{effectBits, transmitterEffect, transmitterEnabling};
 ghost use Rattle.front_commands.specs.Commands.{receiverEffect, receiverEnabling, enabledThen, enabledAfter};
-ghost use Rattle.front_commands.specs.Commands.{sideCommanded, commandFeed};
+ghost use Rattle.front_commands.specs.Commands.{echoAfter, sideCommanded, commandFeed};
 
 // Bits 6-4.
 fn effect_bits(byte: u8) -> u8
@@ -93,6 +93,15 @@ fn enabled_after(enabled: bool, bits: u8) -> bool
     (bits == 1) | (enabled & (bits != 2))
 }
 
+// Order 2: the echoed level after a command to a receiver that is enabled or not, bits 6-4 and 1-0 of it. "(high while
+// disabled)": of one that is off it is high, and a reset or a disable raises it; and "3 reset transmitter (.. TxD
+// high)".
+fn echo_after(enabled: bool, echo: bool, effect: u8, bits: u8) -> bool
+    ensures { λ r. ⌜ r ≡ echoAfter enabled echo effect bits ⌝ }
+{
+    !enabled | echo | (effect == 2) | (effect == 3) | (bits == 2)
+}
+
 // The side: "1 pointer to MR1".
 pub fn command_side(side: Side, byte: u8) -> Side
     ensures { λ r. ⌜ r ≡ sideCommanded side byte ⌝ }
@@ -103,9 +112,11 @@ pub fn command_side(side: Side, byte: u8) -> Side
     let first = step_transmitter(side.transmitter, effect_input);
     let transmitter = step_transmitter(first, enabling_input);
     let enabled = enabled_after(enabled_then(side.enabled, effect), byte % 4);
+    let echo = echo_after(side.enabled, side.echo, effect, byte % 4);
     let mut s = side;
     s.moved = side.moved & (effect != 1);
     s.enabled = enabled;
+    s.echo = echo;
     s.transmitter = transmitter;
     s
 }

@@ -11,7 +11,7 @@ use Rattle.transmitter_state.specs.State.{freshTransmitter}
 use Rattle.transmitter.specs.Transmitter.{afterInput}
 use Rattle.front_side.specs.declared.side.Side.{Side}
 
--- "every other register, .. phase, flag .. 0, .. both sides disabled, .. pointer at MR1"
+-- "every other register, .. phase, flag .. 0, .. both sides disabled, .. TxD high, .. pointer at MR1"
 unfoldable pub freshSide : Side
 freshSide =
     record {
@@ -20,6 +20,7 @@ freshSide =
       moved = false;
       csr = 0;
       enabled = false;
+      echo = true;
       transmitter = freshTransmitter;
       phases = restarted;
     }
@@ -35,6 +36,7 @@ withModes s mr1 mr2 moved =
       moved = moved;
       csr = s .csr;
       enabled = s .enabled;
+      echo = s .echo;
       transmitter = s .transmitter;
       phases = s .phases;
     }
@@ -48,6 +50,7 @@ withEnabled s x =
       moved = s .moved;
       csr = s .csr;
       enabled = x;
+      echo = s .echo;
       transmitter = s .transmitter;
       phases = s .phases;
     }
@@ -60,7 +63,22 @@ withTransmitter s x =
       moved = s .moved;
       csr = s .csr;
       enabled = s .enabled;
+      echo = s .echo;
       transmitter = x;
+      phases = s .phases;
+    }
+
+-- another echoed level
+abbrev pub withEcho : Side → Bool → Side
+withEcho s x =
+    record {
+      mr1 = s .mr1;
+      mr2 = s .mr2;
+      moved = s .moved;
+      csr = s .csr;
+      enabled = s .enabled;
+      echo = x;
+      transmitter = s .transmitter;
       phases = s .phases;
     }
 
@@ -73,6 +91,7 @@ withClocks s csr x =
       moved = s .moved;
       csr = csr;
       enabled = s .enabled;
+      echo = s .echo;
       transmitter = s .transmitter;
       phases = x;
     }

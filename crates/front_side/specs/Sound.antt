@@ -1,5 +1,5 @@
 -- "registers holding only values that writes accept", and the ranges of what a side holds. docs/SOUND.md lists the
--- same. CSR, the pointer and the enable may be any of their type. Assumes nothing.
+-- same. CSR, the pointer, the enable and the echoed level may be any of their type. Assumes nothing.
 use mathlib.Core.Bool.{Bool, not, _&&_}
 use Rattle.format.specs.Format.{mr1NotModelled, mr2NotModelled}
 use Rattle.clocks.specs.Sound.{phasesInRange}

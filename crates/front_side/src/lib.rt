@@ -1,5 +1,5 @@
 // One channel's side of the front: its mode registers and their pointer, CSR, the receiver's enable, the
-// transmitter and the phases of its clocks. A and B are two of these.
+// echoed level, the transmitter and the phases of its clocks. A and B are two of these.
 //
 // Of the receiver the side knows its enable alone.
 mod side;

@@ -21,11 +21,13 @@ pub struct Side {
     pub csr: u8,
     // the receiver's enable
     pub enabled: bool,
+    // order 2: the level that the echo modes put on TxD; high where nothing has been echoed
+    pub echo: bool,
     pub transmitter: Transmitter,
     pub phases: Phases,
 }
 
-// "every other register, .. phase, flag .. 0, .. both sides disabled, .. pointer at MR1"
+// "every other register, .. phase, flag .. 0, .. both sides disabled, .. TxD high, .. pointer at MR1"
 pub fn fresh_side() -> Side
     ensures { λ r. ⌜ r ≡ freshSide ⌝ }
 {
@@ -35,6 +37,7 @@ pub fn fresh_side() -> Side
         moved: false,
         csr: 0,
         enabled: false,
+        echo: true,
         transmitter: fresh_transmitter(),
         phases: restart(),
     }

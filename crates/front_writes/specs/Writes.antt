@@ -14,7 +14,8 @@ use Rattle.outputs.specs.declared.outputs.Outputs.{Outputs}
 use Rattle.outputs.specs.Outputs.{bitsSet, bitsReset, outputsChosen}
 use Rattle.feed.specs.declared.feed.Feed.the-variants.{Nothing}
 use Rattle.front_side.specs.declared.side.Side.{Side}
-use Rattle.front_side.specs.Side.{modeWritten, csrWritten, bufferWritten, setChanged}
+use Rattle.front_side.specs.Side.{csrWritten, bufferWritten, setChanged}
+use Rattle.front_modes.specs.Modes.{modeSet, modeFeed}
 use Rattle.timer_state.specs.Counting.{withPreload}
 use Rattle.timer.specs.Timer.{modeChanged}
 
@@ -25,7 +26,7 @@ commanded s byte = sideHanded (sideCommanded s byte) (commandFeed s byte)
 
 unfoldable pub sideWritten : Side → ℕ → ℕ → SideHanded
 sideWritten s n byte =
-    pick (eqb n 0) (sideHanded (modeWritten s byte) Nothing)
+    pick (eqb n 0) (sideHanded (modeSet s byte) (modeFeed s byte))
     (pick (eqb n 1) (sideHanded (csrWritten s byte) Nothing)
     (pick (eqb n 2) (commanded s byte)
     (sideHanded (bufferWritten s byte) Nothing)))

@@ -11,11 +11,12 @@ use front::hand_nothing;
 use front::hand_side;
 use front_commands::command_feed;
 use front_commands::command_side;
+use front_modes::mode_feed;
+use front_modes::set_mode;
 use front_side::Side;
 use front_side::change_set;
 use front_side::write_buffer;
 use front_side::write_csr;
-use front_side::write_mode;
 use outputs::Outputs;
 use outputs::choose_outputs;
 use outputs::reset_bits;
@@ -37,7 +38,7 @@ fn write_side(side: Side, register: u8, byte: u8) -> SideHanded
     ensures { λ r. ⌜ r ≡ sideWritten side register byte ⌝ }
 {
     match register {
-        0 => hand_side(write_mode(side, byte), Feed::Nothing),
+        0 => hand_side(set_mode(side, byte), mode_feed(side, byte)),
         1 => hand_side(write_csr(side, byte), Feed::Nothing),
         2 => command(side, byte),
         _ => hand_side(write_buffer(side, byte), Feed::Nothing),

@@ -14,6 +14,7 @@ use Rattle.frame.specs.Levels.{beforeStop}
 use Rattle.frame.proofs.Laws.Levels.{before-stop-most, length-before-stop}
 use Rattle.frame.proofs.Laws.Register.{register-at}
 use Rattle.front_side.specs.declared.side.Side.{Side}
+use Rattle.front_modes.specs.Modes.{txdOf}
 use Rattle.front_side.specs.Side.{bufferWritten}
 use Rattle.events.specs.declared.events.Event.the-variants.{Write}
 use Rattle.chip_device.specs.declared.device.Device.{Device}
@@ -44,7 +45,7 @@ frame-bit byte k =
     let m = before-stop-most 19 in
     register-at (formatOf 19) byte k (rw l (omega (arith, m)))
 
-seen : (d : Device) (s : Side) (byte n k : ℕ) → Going d s → Starts s byte → sideTicked n (startedSide byte) .transmitter .txd ≡ frameLevel byte k
+seen : (d : Device) (s : Side) (byte n k : ℕ) → Going d s → Starts s byte → txdOf (sideTicked n (startedSide byte)) ≡ frameLevel byte k
     → ticked (24 + n) (stepOf d (Write 3 byte)) .lines .txda ≡ getD (beforeStop (formatOf 19) byte) k true
 seen d s byte n k g h e = later d s byte n g h .line ∙ e ∙ frame-bit byte k
 

@@ -1,5 +1,6 @@
 // The bench: the chip, the levels on its pins, and whether a wire joins each TxD to the RxD beside it.
 use bytes::has_bit;
+use chip_answers::Lines;
 use chip_device::fresh;
 use chip_step::Answer;
 use chip_step::step;
@@ -75,6 +76,40 @@ pub enum Wish {
     Set(u8, u8),
     // a tick, until TxDA leaves the level
     Leaves(bool),
+    // an event of the start-up test, until a byte does not come back or a TxD is low
+    Looped,
+}
+
+// The turns that a byte takes in the start-up test.
+pub const LOOPED_TURNS: u64 = 28;
+
+fn looped_byte(turns: u64) -> u8 {
+    (turns / LOOPED_TURNS % 256) as u8
+}
+
+// The start-up test, both channels clocked at 1X by the falling edges of IP3 and IP5: byte n to channel A and 255 - n
+// to B, the eleven bits of their frames, both read back, and one bit more.
+fn looped_event(turns: u64) -> Event {
+    let byte = looped_byte(turns);
+    let at = turns % LOOPED_TURNS;
+    match at {
+        0 => Event::Write(3, byte),
+        1 => Event::Write(11, 255 - byte),
+        24 => Event::Read(3),
+        25 => Event::Read(11),
+        _ => Event::Pins(if at % 2 == 0 { 215 } else { 255 }),
+    }
+}
+
+// Whether what was read in the turn before is not the byte that went out, or was no new one.
+fn is_lost(turns: u64, byte: u8, fresh: bool) -> bool {
+    let sent = looped_byte(turns);
+    let at = turns % LOOPED_TURNS;
+    match at {
+        25 => !fresh | (byte != sent),
+        26 => !fresh | (byte != 255 - sent),
+        _ => false,
+    }
 }
 
 // Bit n of the frame of a byte: start bit, eight data bits, the lowest first, and a high bit.
@@ -106,27 +141,29 @@ fn first_event(wish: Wish, turns: u64, pins: u8) -> Event {
     }
 }
 
-fn last_event(wish: Wish) -> Event {
+fn last_event(wish: Wish, turns: u64) -> Event {
     match wish {
         Wish::Edges => Event::Pins(247),
         Wish::Set(register, mask) => Event::Read(register),
+        Wish::Looped => looped_event(turns),
         _ => Event::Tick,
     }
 }
 
 fn turn(bench: Bench, wish: Wish, turns: u64) -> Bench {
-    let last = last_event(wish);
+    let last = last_event(wish, turns);
     if has_first(wish, turns) {
         return act(act(bench, first_event(wish, turns, bench.pins)), last);
     }
     act(bench, last)
 }
 
-// Of the answer to the turn before: its data byte, and TxDA.
-fn is_over(wish: Wish, turns: u64, byte: u8, txda: bool) -> bool {
+// Of the answer to the turn before: its data byte, whether that is fresh, and the lines.
+fn is_over(wish: Wish, turns: u64, byte: u8, fresh: bool, lines: Lines) -> bool {
     match wish {
         Wish::Set(register, mask) => (turns != 0) & (byte & mask != 0),
-        Wish::Leaves(level) => txda != level,
+        Wish::Leaves(level) => lines.txda != level,
+        Wish::Looped => is_lost(turns, byte, fresh) | !lines.txda | !lines.txdb,
         _ => false,
     }
 }
@@ -140,7 +177,15 @@ pub struct Stopped {
 pub fn go(bench: Bench, wish: Wish, most: u64) -> Stopped {
     let mut next = bench;
     let mut turns = 0u64;
-    while turns < most && !is_over(wish, turns, next.answer.byte, next.answer.lines.txda) {
+    while turns < most
+        && !is_over(
+            wish,
+            turns,
+            next.answer.byte,
+            next.answer.fresh,
+            next.answer.lines,
+        )
+    {
         next = turn(next, wish, turns);
         turns += 1;
     }

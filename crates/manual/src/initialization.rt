@@ -23,22 +23,47 @@ fn sequence() {
 }
 
 // CHCHK's four errors: transmitter never ready, receiver never ready, parity error (SR bit 5),
-// incorrect character received. Then SINIT's enabled channels.
+// incorrect character received. "SINIT places the specified channel in the local loopback mode"; "A receiver just
+// enabled must sample a high before a low counts" (01), so a pulse, 24 ticks, comes before the character. Then both
+// sides are disabled for the change of mode (6.3.3), and SINIT's channels are enabled.
 fn self_test() {
     example(
         b"SINIT and CHCHK, channel A (002, 6.4.2.1)",
-        b"w2,32 w2,48 w1,187 w0,3 n0,135 w0,7 j w2,5 q1,4 w3,85 q1,1 r1,5 r3,85 q1,8 r1,12 ",
-        b"as the manual says; 01 decides: local loopback is refused with 5, so a wire outside joins TxDA and RxDA",
+        b"w2,32 w2,48 w1,187 w0,3 w0,135 w2,5 t24 q1,4 w3,85 q1,1 r1,5 r3,85 q1,8 r1,12 d1 w2,10 \
+        w0,7 w2,5 r0,7 r1,12 d1 w3,0 t24 d0 ",
+        b"as the manual says",
     );
     example(
         b"SINIT and CHCHK, channel B (002, 6.4.2.1)",
-        b"w10,32 w10,48 w9,187 w8,3 n8,135 w8,7 j w10,5 q9,4 w11,170 q9,1 r9,5 r11,170 q9,8 \
-        r9,12 ",
-        b"as the manual says; 01 decides: local loopback is refused with 5, so a wire outside joins TxDB and RxDB",
+        b"w10,32 w10,48 w9,187 w8,3 w8,135 w10,5 t24 q9,4 w11,170 q9,1 r9,5 r11,170 q9,8 r9,12 e1 \
+        w10,10 w8,7 w10,5 r8,7 r9,12 e1 w11,0 t24 e0 ",
+        b"as the manual says",
+    );
+}
+
+// What CHCHK finds with the transmitter not enabled, and where the character follows the enable with no pulse
+// between: its start bit is then no start. Of 0 nothing is left; of 85 bit 1 is the start, with the parity and the
+// stop bit for data bits 6 and 7, and the idle line for the parity bit.
+fn self_test_errors() {
+    example(
+        b"CHCHK, transmitter never ready: not enabled (002, 6.4.2.1; 004, 4.3.2.1: \"The transmitter must be enabled\")",
+        b"w1,187 w0,3 w0,135 w2,1 t24 r1,0 w3,85 t4608 r1,0 r3,0 g0 ",
+        b"as the manual says",
+    );
+    example(
+        b"CHCHK, receiver never ready: 0 written before a pulse has passed (002, 6.4.2.1)",
+        b"w1,187 w0,3 w0,135 w2,5 w3,0 t4608 r1,12 r3,0 g0 w3,85 q1,1 r1,5 r3,85 ",
+        b"01 decides: a receiver just enabled must sample a high before a low counts",
+    );
+    example(
+        b"CHCHK, parity error and incorrect character: 85 written before a pulse has passed (002, 6.4.2.1)",
+        b"w1,187 w0,3 w0,135 w2,5 w3,85 t4608 r1,12 t216 r1,45 r3,149 w3,85 q1,1 r1,5 r3,85 ",
+        b"01 decides: a receiver just enabled must sample a high before a low counts",
     );
 }
 
 pub fn examples() {
     sequence();
     self_test();
+    self_test_errors();
 }

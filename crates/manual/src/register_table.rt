@@ -14,10 +14,26 @@ fn mode_registers() {
         b"r8,0 r8,0 w10,16 w8,7 w8,15 r8,15 w10,16 r8,7 r8,15 r0,0 ",
         b"as the manual says",
     );
+}
+
+// Order 2: "5 no longer covers MR2 bits 7-6." Bit 5 is refused in each mode, and the mode then stays.
+fn channel_modes() {
     example(
-        b"register 0, settings of MR1 and MR2 (004, 4.2: receiver RTR, multidrop, the channel modes, transmitter RTS)",
-        b"n0,128 n0,24 w0,19 n0,64 n0,128 n0,192 n0,32 r0,0 ",
+        b"register 0, settings of MR1 and MR2 (004, 4.2: receiver RTR, multidrop, transmitter RTS)",
+        b"n0,128 n0,24 w0,19 n0,32 n0,96 n0,160 n0,224 r0,0 w0,135 n0,39 n0,167 r0,135 ",
         b"01 decides: not modelled, refused with 5",
+    );
+    example(
+        b"register 0, channel modes of MR2A (004, 4.2: normal, automatic echo, local loopback, remote loopback)",
+        b"w0,19 r0,0 w0,64 r0,64 w0,128 r0,128 w0,192 r0,192 w0,0 r0,0 w0,223 r0,223 w2,16 r0,19 \
+        r0,223 r8,0 r8,0 ",
+        b"as the manual says",
+    );
+    example(
+        b"register 8, channel modes of MR2B (004, 4.2: normal, automatic echo, local loopback, remote loopback)",
+        b"w8,19 r8,0 w8,64 r8,64 w8,128 r8,128 w8,192 r8,192 w8,0 r8,0 w8,223 r8,223 w10,16 \
+        r8,19 r8,223 r0,0 r0,0 ",
+        b"as the manual says",
     );
 }
 
@@ -138,6 +154,7 @@ fn reset() {
 
 pub fn examples() {
     mode_registers();
+    channel_modes();
     status_and_clock_select();
     command_registers();
     buffers();

@@ -1,5 +1,6 @@
 // An example as a script, run on a fresh chip, each of its words printed and compared.
 use crate::bench::Bench;
+use crate::bench::Stopped;
 use crate::bench::Wish;
 use crate::bench::act;
 use crate::bench::go;
@@ -13,10 +14,11 @@ use crate::word::event_of;
 use crate::word::first_byte;
 use crate::word::is_event;
 use crate::word::last_byte;
+use crate::word::looped_turns;
 use crate::word::no_word;
 use crate::word::with_byte;
 
-fn look_at(bench: Bench) -> Look {
+fn look_at(bench: Bench, turns: u64) -> Look {
     Look {
         number: bench.answer.number,
         byte: bench.answer.byte,
@@ -25,10 +27,11 @@ fn look_at(bench: Bench) -> Look {
         txda: bench.answer.lines.txda,
         txdb: bench.answer.lines.txdb,
         op: bench.answer.lines.op,
+        turns: turns,
     }
 }
 
-// What comes in over time: ticks, edges, characters, reads until a bit is set.
+// What comes in over time: ticks, edges, characters, reads until a bit is set, the start-up test.
 fn wish_of(word: Word) -> Wish {
     let letter = word.letter;
     match letter {
@@ -36,6 +39,7 @@ fn wish_of(word: Word) -> Wish {
         b'a' => Wish::Character(64, last_byte(word)),
         b'b' => Wish::Character(128, last_byte(word)),
         b'q' => Wish::Set(first_byte(word), last_byte(word)),
+        b'l' => Wish::Looped,
         _ => Wish::Ticks,
     }
 }
@@ -48,17 +52,25 @@ fn most_turns(word: Word) -> u64 {
         b'c' => word.last % 256,
         b'a' | b'b' => 3840,
         b'q' => 20001,
+        b'l' => looped_turns(word),
         _ => 0,
     }
 }
 
-fn drive(bench: Bench, word: Word) -> Bench {
+fn drive(bench: Bench, word: Word) -> Stopped {
     if is_event(word.letter) {
-        return act(bench, event_of(word));
+        return Stopped {
+            bench: act(bench, event_of(word)),
+            turns: 1,
+        };
     }
-    let mut next = go(bench, wish_of(word), most_turns(word)).bench;
+    let stopped = go(bench, wish_of(word), most_turns(word));
+    let mut next = stopped.bench;
     next.wired = next.wired | (word.letter == b'j');
-    next
+    Stopped {
+        bench: next,
+        turns: stopped.turns,
+    }
 }
 
 // Whether every word agrees. A script that ends within a word does not.
@@ -71,8 +83,9 @@ fn run(bench: Bench, script: &[u8]) -> bool {
         let c = script[i];
         i += 1;
         if c == b' ' {
-            next = drive(next, word);
-            same = judge(look_at(next), word) & same;
+            let driven = drive(next, word);
+            next = driven.bench;
+            same = judge(look_at(next, driven.turns), word) & same;
             word = no_word();
         } else {
             word = with_byte(word, c);

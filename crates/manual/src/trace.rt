@@ -1,4 +1,5 @@
 // A word printed with what came of it: `:=` a write, `=` a read or a level, `<-` a character coming in.
+use crate::bench::LOOPED_TURNS;
 use crate::text::print;
 use crate::text::print_byte;
 use crate::text::print_number;
@@ -86,6 +87,11 @@ fn print_poll(seen: Look, word: Word) {
     print_level(b"", seen.byte & last_byte(word) != 0);
 }
 
+fn print_looped(seen: Look) {
+    print_number(seen.turns / LOOPED_TURNS);
+    print(b" bytes looped");
+}
+
 fn print_seen(seen: Look, word: Word) {
     print(b" ");
     if is_access(word.letter) {
@@ -94,6 +100,8 @@ fn print_seen(seen: Look, word: Word) {
         print_line(seen, word);
     } else if word.letter == b'q' {
         print_poll(seen, word);
+    } else if word.letter == b'l' {
+        print_looped(seen);
     } else {
         print_time(word);
     }

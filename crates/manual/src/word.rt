@@ -13,9 +13,11 @@
 //   c times            so many falling edges of IP3
 //   j                  a wire joins TxDA to RxDA, and another TxDB to RxDB
 //   q register,mask    the register is read until one of these bits is set
+//   l bytes            the start-up test: so many bytes looped in both channels, each TxD high (order 2)
 //   i, d, e level      IRQ, TxDA, TxDB has this level
 //   o levels           OP0-OP7 have these levels
 //   g level            what was answered last said fresh, 1, or stale, 0 (order 1)
+use crate::bench::LOOPED_TURNS;
 use events::Event;
 
 pub struct Word {
@@ -35,6 +37,8 @@ pub struct Look {
     pub txda: bool,
     pub txdb: bool,
     pub op: u8,
+    // how many turns the word took
+    pub turns: u64,
 }
 
 pub fn no_word() -> Word {
@@ -145,6 +149,11 @@ fn line_agrees(seen: Look, word: Word) -> bool {
     }
 }
 
+// The turns of a start-up test in which no byte is lost.
+pub fn looped_turns(word: Word) -> u64 {
+    word.last % 65536 * LOOPED_TURNS
+}
+
 // Time and pins are accepted; a letter that is no word's never agrees.
 fn time_agrees(seen: Look, letter: u8) -> bool {
     let known = (letter == b't') | (letter == b'p') | (letter == b'c') | (letter == b'j');
@@ -161,6 +170,9 @@ pub fn agrees(seen: Look, word: Word) -> bool {
     }
     if word.letter == b'q' {
         return (seen.number == 0) & (seen.byte & last_byte(word) != 0);
+    }
+    if word.letter == b'l' {
+        return (seen.number == 0) & (seen.turns == looped_turns(word));
     }
     time_agrees(seen, word.letter)
 }

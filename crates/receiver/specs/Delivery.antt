@@ -1,8 +1,8 @@
 -- Demand 3 for one receiver: what is owed of any list of feeds after a chip reset. The ledger is written from the feeds
 -- and from the sampler run alone; no queue is in sight. What a receiver owes is then said of any way `step` to take a
 -- feed and any way `show` to tell its status, so that it can be proved of one and proved false of others. The front
--- feeds a pulse to an enabled receiver only, and `Enables` to one that was off; the statement asks no such thing of the
--- list. Assumes nothing.
+-- feeds a pulse to an enabled receiver only, and `Enables` to one that was off or at a mode change; the statement asks
+-- no such thing of the list. Assumes nothing.
 use Prim.Native.Nat.{ℕ, zero, suc, _≤_}
 use mathlib.Core.Path.{_≡_}
 use mathlib.Core.Bool.{Bool, true, false, _||_}

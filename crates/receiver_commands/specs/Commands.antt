@@ -34,8 +34,8 @@ effectOf r Reset = resetOf r
 effectOf r ClearErrors = errorsCleared r
 effectOf r ClearBreakChange = breakChangeCleared r
 
--- Bits 1-0 of a command, of a receiver that was off (`Enables`) or on (`Disables`): "A receiver just enabled must
--- sample a high before a low counts". "Enabling it again changes nothing.": that is `Stays`.
+-- Bits 1-0 of a command, of a receiver that was off (`Enables`, a mode change too) or on (`Disables`): "A receiver just
+-- enabled must sample a high before a low counts". "Enabling it again changes nothing.": that is `Stays`.
 unfoldable pub enablingOf : Receiver → Enabling → Receiver
 enablingOf r Stays = r
 enablingOf r Enables = assemblyDropped r

@@ -19,7 +19,7 @@ abbrev pub at16 : Format → Setting
 at16 f = record { format = f; sixteen = true }
 
 -- A pulse of an enabled receiver's clock, with the level of the line and the format and 16X or 1X as they stand; a
--- receiver that was disabled is enabled; it is disabled.
+-- receiver that was disabled is enabled, or its channel's mode changes; it is disabled.
 pub data Line : Type 0 where
   pulse : Bool → Setting → Line
   enable disable : Line

@@ -15,7 +15,7 @@ use Rattle.transmitter_state.specs.declared.state.Transmitter.{Transmitter}
 use Rattle.transmitter_state.specs.State.{withAsked}
 use Rattle.transmitter_state.specs.Sending.{canStart, breakBegun, idleOf, heldHigh, pulsedOf}
 use Rattle.transmitter.specs.declared.transmitter.Input.{Input}
-use Rattle.transmitter.specs.declared.transmitter.Input.the-variants.{Nothing, Pulse, Write, Enable, Disable, StartBreak, StopBreak, Reset, ChipReset}
+use Rattle.transmitter.specs.declared.transmitter.Input.the-variants.{Nothing, Pulse, Write, Enable, Disable, StartBreak, StopBreak, Reset, ChipReset, ModeChange}
 use Rattle.transmitter.specs.Commands.{writtenOf, highAfter, breakEnded, droppedOf, breakAsked}
 use Rattle.transmitter.specs.Transmitter.{afterInput}
 use Rattle.transmitter.specs.Frames.{after, pulsesIn, free}
@@ -45,6 +45,7 @@ stays (StartBreak ∷ xs) t h k = stays xs (afterInput t StartBreak) (rw (h .pha
 stays (StopBreak ∷ xs) t h k = absurd (true≢false (sym k))
 stays (Reset ∷ xs) t h k = absurd (true≢false (sym k))
 stays (ChipReset ∷ xs) t h k = absurd (true≢false (sym k))
+stays (ModeChange ∷ xs) t h k = absurd (true≢false (sym k))
 
 -- ---- after it ----
 
@@ -138,6 +139,7 @@ settles sixteen (StartBreak ∷ ys) n t h m k l = settles sixteen ys n _ (asked-
 settles sixteen (StopBreak ∷ ys) n t h m k l = settles sixteen ys n _ (ended-owing sixteen n t h) m k l
 settles sixteen (Reset ∷ ys) n t h m k l = settles sixteen ys n _ (dropped-owing sixteen n (breakEnded t) (ended-owing sixteen n t h)) m k l
 settles sixteen (ChipReset ∷ ys) n t h m k l = absurd (true≢false (sym k))
+settles sixteen (ModeChange ∷ ys) n t h m k l = absurd (true≢false (sym k))
 
 -- ---- all of it ----
 

@@ -25,7 +25,7 @@ use Rattle.transmitter_state.specs.declared.state.Transmitter.{Transmitter}
 use Rattle.transmitter_state.specs.State.{withHolding, withPhase, withShifter}
 use Rattle.transmitter_state.specs.Sending.{canStart, takenOf, startedOf, breakBegun, idleOf, begunOf, bitOfPulse, sentOnOf, pulsedOf}
 use Rattle.transmitter.specs.declared.transmitter.Input.{Input}
-use Rattle.transmitter.specs.declared.transmitter.Input.the-variants.{Nothing, Pulse, Write, Enable, Disable, StartBreak, StopBreak, Reset, ChipReset}
+use Rattle.transmitter.specs.declared.transmitter.Input.the-variants.{Nothing, Pulse, Write, Enable, Disable, StartBreak, StopBreak, Reset, ChipReset, ModeChange}
 use Rattle.transmitter.specs.Commands.{writtenOf, breakEnded, breakAsked}
 use Rattle.transmitter.specs.Status.{shifterEmpty}
 use Rattle.transmitter.specs.Transmitter.{afterInput}
@@ -128,6 +128,7 @@ module _ (s : Standing) (byte : ℕ) where
   sends-on (StopBreak ∷ xs) h k l = sends-on xs (ended-sending h) k l
   sends-on (Reset ∷ xs) h k l = absurd (true≢false (sym k))
   sends-on (ChipReset ∷ xs) h k l = absurd (true≢false (sym k))
+  sends-on (ModeChange ∷ xs) h k l = absurd (true≢false (sym k))
 
   -- its last level is on the line
   over-free : {i : ℕ} {t : Transmitter} → Sending i t → suc i ≡ length (frameAt s byte) → free t ≡ true

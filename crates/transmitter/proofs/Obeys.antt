@@ -67,5 +67,7 @@ obeys =
       frees = frees;
       owes = λ t e. (owes t e, refl);
       resetsChip = λ t. refl;
+      changes = λ t.
+          record { shifter = refl; free = refl; high = refl; stays = record { enabled = refl; full = refl; holding = refl; asked = refl } };
       nothing = λ t. refl;
     }

@@ -20,21 +20,22 @@ use Rattle.transmitter_state.specs.declared.state.Transmitter.{Transmitter}
 use Rattle.transmitter_state.specs.State.{emptyShifter, freshTransmitter, withEnabled, withHolding, withPhase, withShifter, withAsked}
 use Rattle.transmitter_state.specs.Sending.{canStart, takenOf, startedOf, breakBegun, idleOf, begunOf, oneMore, sentOnOf, pulsedOf}
 use Rattle.transmitter.specs.declared.transmitter.Input.{Input}
-use Rattle.transmitter.specs.declared.transmitter.Input.the-variants.{Nothing, Pulse, Write, Enable, Disable, StartBreak, StopBreak, Reset, ChipReset}
-use Rattle.transmitter.specs.Commands.{writtenOf, enabledOf, breakEnded, disabledOf, resetOf, breakAsked}
+use Rattle.transmitter.specs.declared.transmitter.Input.the-variants.{Nothing, Pulse, Write, Enable, Disable, StartBreak, StopBreak, Reset, ChipReset, ModeChange}
+use Rattle.transmitter.specs.Commands.{writtenOf, enabledOf, breakEnded, disabledOf, resetOf, breakAsked, sendingDropped}
 use Rattle.transmitter.specs.Frames.{Step, after, pulsesIn, line, free, Startable, Sends, GoesBackToBack}
 use Rattle.transmitter.specs.Sound.{KeepsRanges}
 use Rattle.transmitter.proofs.Computing.{computing}
 
 -- ---- one fault ----
 
--- other ways to take a pulse, a write, a disable, a stop break and a reset
+-- other ways to take a pulse, a write, a disable, a stop break, a reset and a change of mode
 pub record Ways : Type 0 where
   pub pulse : Transmitter → Standing → Transmitter
   pub write : Transmitter → ℕ → Transmitter
   pub disable : Transmitter → Transmitter
   pub stop : Transmitter → Transmitter
   pub reset : Transmitter → Transmitter
+  pub change : Transmitter → Transmitter
 
 -- `afterInput` with those
 abbrev pub taking : Ways → Step
@@ -47,21 +48,26 @@ taking w t StartBreak = breakAsked t
 taking w t StopBreak = w .stop t
 taking w t Reset = w .reset t
 taking w t ChipReset = freshTransmitter
+taking w t ModeChange = w .change t
 
 abbrev pub pulsing : (Transmitter → Standing → Transmitter) → Step
-pulsing f = taking (record { pulse = f; write = writtenOf; disable = disabledOf; stop = breakEnded; reset = resetOf })
+pulsing f = taking (record { pulse = f; write = writtenOf; disable = disabledOf; stop = breakEnded; reset = resetOf; change = sendingDropped })
 
 abbrev pub writing : (Transmitter → ℕ → Transmitter) → Step
-writing f = taking (record { pulse = pulsedOf; write = f; disable = disabledOf; stop = breakEnded; reset = resetOf })
+writing f = taking (record { pulse = pulsedOf; write = f; disable = disabledOf; stop = breakEnded; reset = resetOf; change = sendingDropped })
 
 abbrev pub disabling : (Transmitter → Transmitter) → Step
-disabling f = taking (record { pulse = pulsedOf; write = writtenOf; disable = f; stop = breakEnded; reset = resetOf })
+disabling f = taking (record { pulse = pulsedOf; write = writtenOf; disable = f; stop = breakEnded; reset = resetOf; change = sendingDropped })
 
 abbrev pub stopping : (Transmitter → Transmitter) → Step
-stopping f = taking (record { pulse = pulsedOf; write = writtenOf; disable = disabledOf; stop = f; reset = resetOf })
+stopping f = taking (record { pulse = pulsedOf; write = writtenOf; disable = disabledOf; stop = f; reset = resetOf; change = sendingDropped })
 
 abbrev pub resetting : (Transmitter → Transmitter) → Step
-resetting f = taking (record { pulse = pulsedOf; write = writtenOf; disable = disabledOf; stop = breakEnded; reset = f })
+resetting f = taking (record { pulse = pulsedOf; write = writtenOf; disable = disabledOf; stop = breakEnded; reset = f; change = sendingDropped })
+
+abbrev pub changing : (Transmitter → Transmitter) → Step
+changing f =
+    taking (record { pulse = pulsedOf; write = writtenOf; disable = disabledOf; stop = breakEnded; reset = resetOf; change = f })
 
 -- MR1 16 and MR2 7 at 1X: a frame of seven pulses, 5 data bits, no parity, one stop bit
 abbrev pub once : Standing

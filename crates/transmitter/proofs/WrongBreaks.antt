@@ -1,5 +1,5 @@
 -- The statements on breaks and commands shut wrong transmitters out, each `afterInput` but for one fault: `Breaks` is false of five, `EachPulse`
--- of two, `Obeys` of four. Assumes nothing.
+-- of two, `Obeys` of ten. Assumes nothing.
 use mathlib.Core.Path.{refl, sym, ap}
 use mathlib.Core.Bool.{true, false, not, _&&_, true≢false}
 use mathlib.Core.List.{[], _∷_}
@@ -12,13 +12,13 @@ use Rattle.transmitter_state.specs.declared.state.Transmitter.{Transmitter}
 use Rattle.transmitter_state.specs.State.{freshTransmitter, withHolding, withPhase, withLeft, withAsked}
 use Rattle.transmitter_state.specs.Sending.{canStart, idleOf, begunOf, heldHigh, pulsedOf}
 use Rattle.transmitter.specs.declared.transmitter.Input.the-variants.{Pulse, Write, StopBreak}
-use Rattle.transmitter.specs.Commands.{writtenOf, highAfter, breakEnded, disabledOf, resetOf}
+use Rattle.transmitter.specs.Commands.{writtenOf, highAfter, breakEnded, disabledOf, resetOf, sendingDropped}
 use Rattle.transmitter.specs.Transmitter.{afterInput}
 use Rattle.transmitter.specs.Frames.{Step, after, pulsesIn}
 use Rattle.transmitter.specs.Breaks.{Breaks, EachPulse}
 use Rattle.transmitter.specs.Breaks.Ends.{stops}
 use Rattle.transmitter.specs.Obeys.{Obeys}
-use Rattle.transmitter.proofs.Wrong.{once, enabled, ready, pulses, pulsing, writing, disabling, stopping, resetting}
+use Rattle.transmitter.proofs.Wrong.{once, enabled, ready, pulses, pulsing, writing, disabling, stopping, resetting, changing}
 
 -- ---- breaks ----
 
@@ -119,3 +119,51 @@ resetHangs = resetting (λ t. withPhase (resetOf t) 2 true)
 pub no-resetHangs : Obeys resetHangs → ⊥
 unfolding resetHangs breakEnded pick
 no-resetHangs h = true≢false (sym (h .frees enabled refl))
+
+-- ---- order 2: a change of mode ----
+
+-- "drops what is being sent": one that keeps the shifter, and one that keeps the break
+unfoldable pub changeKeepsFrame : Step
+changeKeepsFrame = changing (λ t. pick (eqb (t .phase) 1) t (sendingDropped t))
+
+pub no-changeKeepsFrame : Obeys changeKeepsFrame → ⊥
+unfolding changeKeepsFrame pick
+no-changeKeepsFrame h = true≢false (sym (h .changes (withPhase enabled 1 false) .shifter))
+
+unfoldable pub changeKeepsBreak : Step
+changeKeepsBreak = changing (λ t. pick (eqb (t .phase) 2) t (sendingDropped t))
+
+pub no-changeKeepsBreak : Obeys changeKeepsBreak → ⊥
+unfolding changeKeepsBreak pick
+no-changeKeepsBreak h = true≢false (sym (h .changes (withPhase enabled 2 false) .high))
+
+-- "holds TxD high until the next pulse", and no longer: one that ends a break as a stop does, and one that keeps the
+-- bit that is owed
+unfoldable pub changeOwes : Step
+changeOwes = changing (λ t. pick (eqb (t .phase) 2) (highAfter t) (sendingDropped t))
+
+pub no-changeOwes : Obeys changeOwes → ⊥
+unfolding changeOwes pick
+no-changeOwes h = true≢false (sym (h .changes (withPhase enabled 2 false) .free))
+
+unfoldable pub changeKeepsOwed : Step
+changeKeepsOwed = changing (λ t. pick (eqb (t .phase) 3) t (sendingDropped t))
+
+pub no-changeKeepsOwed : Obeys changeKeepsOwed → ⊥
+unfolding changeKeepsOwed pick
+no-changeKeepsOwed h = true≢false (sym (h .changes (withPhase enabled 3 true) .free))
+
+-- "the holding place stays", and so does a break that is asked and is not being sent
+unfoldable pub changeForgets : Step
+changeForgets = changing (λ t. sendingDropped (withHolding t false 0))
+
+pub no-changeForgets : Obeys changeForgets → ⊥
+unfolding changeForgets
+no-changeForgets h = true≢false (sym (h .changes (ready 0) .stays .full))
+
+unfoldable pub changeUnasks : Step
+changeUnasks = changing (λ t. sendingDropped (withAsked t false))
+
+pub no-changeUnasks : Obeys changeUnasks → ⊥
+unfolding changeUnasks
+no-changeUnasks h = true≢false (sym (h .changes asking .stays .asked))

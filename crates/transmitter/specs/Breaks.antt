@@ -13,11 +13,12 @@ use Rattle.transmitter_state.specs.State.{inBreak, afterBreak, withLeft, withAs
 use Rattle.transmitter_state.specs.Sending.{canStart, breakBegun, idleOf}
 use Rattle.transmitter.specs.declared.transmitter.Input.{Input}
 use Rattle.transmitter.specs.declared.transmitter.Input.the-variants.{Nothing, Pulse, Write, Enable, Disable}
-use Rattle.transmitter.specs.declared.transmitter.Input.the-variants.{StartBreak, StopBreak, Reset, ChipReset}
+use Rattle.transmitter.specs.declared.transmitter.Input.the-variants.{StartBreak, StopBreak, Reset, ChipReset, ModeChange}
 use Rattle.transmitter.specs.Commands.{highAfter}
 use Rattle.transmitter.specs.Frames.{Step, after, pulsesIn, allOf, free}
 
--- any input but a stop break, a disable or a reset: "stop, disable or reset ends it, nothing else"
+-- any input but a stop break, a disable or a reset: "stop, disable or reset ends it, nothing else"; order 2: a mode
+-- change drops it
 abbrev pub leavesBreak : Input → Bool
 leavesBreak Nothing = true
 leavesBreak (Pulse s) = true
@@ -28,11 +29,12 @@ leavesBreak StartBreak = true
 leavesBreak StopBreak = false
 leavesBreak Reset = false
 leavesBreak ChipReset = false
+leavesBreak ModeChange = false
 
 abbrev pub unended : List Input → Bool
 unended xs = allOf leavesBreak xs
 
--- pulses of this clock, and anything else but a chip reset
+-- pulses of this clock, and anything else but a chip reset and a change of mode, which drops the bit that is owed
 abbrev pub clockedAt : Bool → Input → Bool
 clockedAt sixteen Nothing = true
 clockedAt true (Pulse s) = s .sixteen
@@ -44,6 +46,7 @@ clockedAt sixteen StartBreak = true
 clockedAt sixteen StopBreak = true
 clockedAt sixteen Reset = true
 clockedAt sixteen ChipReset = false
+clockedAt sixteen ModeChange = false
 
 abbrev pub allAt : Bool → List Input → Bool
 allAt sixteen xs = allOf (clockedAt sixteen) xs

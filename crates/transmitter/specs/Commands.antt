@@ -1,4 +1,4 @@
--- What the program does to a transmitter: a write, and the commands. Assumes nothing.
+-- What the program does to a transmitter: a write, the commands, and a change of mode. Assumes nothing.
 use Prim.Native.Nat.{ℕ}
 use mathlib.Core.Bool.{true, false, _||_}
 use lib.Dec.{eqb}
@@ -40,3 +40,8 @@ resetOf t = droppedOf (breakEnded t)
 -- "start break while disabled is ignored"; while one is being sent there is nothing to ask for
 unfoldable pub breakAsked : Transmitter → Transmitter
 breakAsked t = pick (eqb (t .phase) inBreak) t (withAsked t (t .asked || t .enabled))
+
+-- Order 2: "A mode change drops what is being sent (a break too; the holding place stays) .., and holds TxD high until
+-- the next pulse.": no bit is owed then, and a break that is asked stays asked
+abbrev pub sendingDropped : Transmitter → Transmitter
+sendingDropped t = withPhase (withShifter t emptyShifter) idlePhase true

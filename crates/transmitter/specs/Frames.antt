@@ -16,7 +16,7 @@ use Rattle.transmitter_state.specs.State.{sending, inBreak, afterBreak, withHol
 use Rattle.transmitter_state.specs.Sending.{clearToSend, canStart, idleOf}
 use Rattle.transmitter.specs.declared.transmitter.Input.{Input}
 use Rattle.transmitter.specs.declared.transmitter.Input.the-variants.{Nothing, Pulse, Write, Enable, Disable}
-use Rattle.transmitter.specs.declared.transmitter.Input.the-variants.{StartBreak, StopBreak, Reset, ChipReset}
+use Rattle.transmitter.specs.declared.transmitter.Input.the-variants.{StartBreak, StopBreak, Reset, ChipReset, ModeChange}
 use Rattle.transmitter.specs.Status.{shifterEmpty}
 
 -- ---- lists of inputs ----
@@ -40,6 +40,7 @@ isPulse StartBreak = false
 isPulse StopBreak = false
 isPulse Reset = false
 isPulse ChipReset = false
+isPulse ModeChange = false
 
 -- how many pulses there are among them
 unfoldable pub pulsesIn : List Input → ℕ
@@ -56,7 +57,7 @@ abbrev pub allOf : (Input → Bool) → List Input → Bool
 allOf is [] = true
 allOf is (x ∷ xs) = is x && allOf is xs
 
--- any input but a transmitter or chip reset
+-- any input but a transmitter or chip reset, and a change of mode
 abbrev pub keeps : Input → Bool
 keeps Nothing = true
 keeps (Pulse s) = true
@@ -67,6 +68,7 @@ keeps StartBreak = true
 keeps StopBreak = true
 keeps Reset = false
 keeps ChipReset = false
+keeps ModeChange = false
 
 abbrev pub noReset : List Input → Bool
 noReset xs = allOf keeps xs
@@ -101,7 +103,7 @@ pub record Undisturbed (t u : Transmitter) : Type 0 where
   pub holding : u .holding ≡ t .holding
   pub asked : u .asked ≡ t .asked
 
--- Once a character has started, whatever else comes but a reset: enable, disable, writes, breaks, CTS, other formats
+-- Once a character has started, whatever else comes but a reset or a change of mode: enable, disable, writes, breaks, CTS, other formats
 -- and clocks.
 pub record Sends (step : Step) : Type 0 where
   -- TxD after the k-th pulse is level k-1 of its frame, and stays so until the next pulse. The list may end anywhere.

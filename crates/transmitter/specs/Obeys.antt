@@ -6,9 +6,9 @@ use lib.Dec.{eqb}
 use Rattle.transmitter_state.specs.declared.state.Transmitter.{Transmitter}
 use Rattle.transmitter_state.specs.State.{inBreak, afterBreak, freshTransmitter, withEnabled, withHolding, withAsked}
 use Rattle.transmitter.specs.declared.transmitter.Input.the-variants.{Nothing, Write, Enable, Disable, StartBreak}
-use Rattle.transmitter.specs.declared.transmitter.Input.the-variants.{StopBreak, Reset, ChipReset}
+use Rattle.transmitter.specs.declared.transmitter.Input.the-variants.{StopBreak, Reset, ChipReset, ModeChange}
 use Rattle.transmitter.specs.Status.{shifterEmpty}
-use Rattle.transmitter.specs.Frames.{Step, free}
+use Rattle.transmitter.specs.Frames.{Step, free, Undisturbed}
 
 -- "3 reset transmitter (disabled, all dropped, TxD high)"
 pub record AllDropped (t : Transmitter) : Type 0 where
@@ -17,6 +17,14 @@ pub record AllDropped (t : Transmitter) : Type 0 where
   pub shifter : shifterEmpty t ≡ true
   pub asked : t .asked ≡ false
   pub high : t .txd ≡ true
+
+-- Order 2: "A mode change drops what is being sent (a break too; the holding place stays) .., and holds TxD high until
+-- the next pulse.", on which a start or a break that was asked may come: no bit is owed
+pub record SendingDropped (t u : Transmitter) : Type 0 where
+  pub shifter : shifterEmpty u ≡ true
+  pub free : free u ≡ true
+  pub high : u .txd ≡ true
+  pub stays : Undisturbed t u
 
 pub record Obeys (step : Step) : Type 0 where
   -- "A write while disabled is ignored; a second write replaces the first."
@@ -39,4 +47,5 @@ pub record Obeys (step : Step) : Type 0 where
   pub owes : (t : Transmitter) → eqb (step t StopBreak .phase) afterBreak ≡ true
       → (eqb (step t Reset .phase) afterBreak ≡ true) × (step t Reset .left ≡ step t StopBreak .left)
   pub resetsChip : (t : Transmitter) → step t ChipReset ≡ freshTransmitter
+  pub changes : (t : Transmitter) → SendingDropped t (step t ModeChange)
   pub nothing : (t : Transmitter) → step t Nothing ≡ t

@@ -1,4 +1,4 @@
-// What the program does to a transmitter: a write, and the commands.
+// What the program does to a transmitter: a write, the commands, and a change of mode.
 use format::Pulses;
 use transmitter_state::AFTER_BREAK;
 use transmitter_state::IDLE;
@@ -7,7 +7,7 @@ use transmitter_state::Transmitter;
 use transmitter_state::empty_shifter;
 ghost use mathlib.Core.Path.{_≡_};
 ghost use Rattle.transmitter.specs.Commands.{writtenOf, enabledOf, highAfter, breakEnded, disabledOf, droppedOf};
-ghost use Rattle.transmitter.specs.Commands.{resetOf, breakAsked};
+ghost use Rattle.transmitter.specs.Commands.{resetOf, breakAsked, sendingDropped};
 
 // "A write while disabled is ignored; a second write replaces the first."
 pub fn write(transmitter: Transmitter, byte: u8) -> Transmitter
@@ -99,5 +99,19 @@ pub fn ask_break(transmitter: Transmitter) -> Transmitter
         return t;
     }
     t.asked = transmitter.asked | transmitter.enabled;
+    t
+}
+
+// Order 2: "A mode change drops what is being sent (a break too; the holding place stays) .., and holds TxD high
+// until the next pulse." No high bit is owed after a break that is dropped, and one that is owed is dropped too;
+// a break that is asked stays asked.
+pub fn drop_sending(transmitter: Transmitter) -> Transmitter
+    ensures { λ r. ⌜ r ≡ sendingDropped transmitter ⌝ }
+{
+    let shifter = empty_shifter();
+    let mut t = transmitter;
+    t.phase = IDLE;
+    t.shifter = shifter;
+    t.txd = true;
     t
 }

@@ -1,6 +1,7 @@
 // One transmitter, and what an input does to it.
 use crate::commands::ask_break;
 use crate::commands::disable;
+use crate::commands::drop_sending;
 use crate::commands::enable;
 use crate::commands::end_break;
 use crate::commands::reset;
@@ -26,6 +27,8 @@ pub enum Input {
     // reset transmitter
     Reset,
     ChipReset,
+    // order 2: a change of the channel's mode
+    ModeChange,
 }
 
 // One input: each is a rule of its own, in every state.
@@ -42,5 +45,6 @@ pub fn step_transmitter(transmitter: Transmitter, input: Input) -> Transmitter
         Input::StopBreak => end_break(transmitter),
         Input::Reset => reset(transmitter),
         Input::ChipReset => fresh_transmitter(),
+        Input::ModeChange => drop_sending(transmitter),
     }
 }

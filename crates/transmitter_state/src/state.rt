@@ -43,7 +43,7 @@ pub struct Transmitter {
     pub left: Pulses,
     // a break is asked and has not begun
     pub asked: bool,
-    // the level of TxD
+    // its level, which TxD shows in normal mode
     pub txd: bool,
 }
 

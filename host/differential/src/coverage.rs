@@ -6,15 +6,16 @@ use duart::device::{Character, Device, Receiver, Timer, Transmitter};
 use duart::{EventRecord, Seen};
 
 const CHIP_RESET: u8 = 0;
-const READ: u8 = 1;
-const WRITE: u8 = 2;
+pub const READ: u8 = 1;
+pub const WRITE: u8 = 2;
 const ACKNOWLEDGE: u8 = 3;
-const PIN_EVENT: u8 = 4;
-const TICK: u8 = 5;
+pub const PIN_EVENT: u8 = 4;
+pub const TICK: u8 = 5;
 
 pub struct Coverage {
     counts: [u64; SIGHTS.len()],
-    irq: bool,
+    /// IRQ after the last event.
+    pub irq: bool,
     /// For A and B: a receiver reset dropped characters, and none has come since.
     dropped: [bool; 2],
 }
@@ -45,15 +46,15 @@ impl Coverage {
         }
     }
 
-    fn of(&self, sight: Sight) -> u64 {
+    pub fn of(&self, sight: Sight) -> u64 {
         self.counts[sight as usize]
     }
 
-    fn note(&mut self, sight: Sight) {
+    pub fn note(&mut self, sight: Sight) {
         self.counts[sight as usize] += 1;
     }
 
-    fn note_if(&mut self, so: bool, sight: Sight) {
+    pub fn note_if(&mut self, so: bool, sight: Sight) {
         self.counts[sight as usize] += u64::from(so);
     }
 
@@ -67,6 +68,7 @@ impl Coverage {
     pub fn see(&mut self, before: &Device, record: EventRecord, seen: Seen, after: &Device) {
         self.see_event(before, record, seen);
         self.see_drops(before, record, after);
+        self.see_modes(before, record, seen, after);
         self.note_if(seen.irq && !self.irq, Sight::IrqAssertions);
         self.irq = seen.irq;
         if matches!(record.kind, PIN_EVENT | TICK) {
@@ -182,7 +184,7 @@ impl Coverage {
 }
 
 /// The character that arrived last: the one that waits counts as the fourth.
-fn newest(receiver: &Receiver) -> Character {
+pub fn newest(receiver: &Receiver) -> Character {
     let queue = &receiver.queue;
     match queue.count {
         0 | 1 => queue.first,

@@ -3,6 +3,7 @@
 
 use crate::drawing;
 use crate::generator::Generator;
+use crate::modes;
 use crate::sound;
 use duart::device::Receiver;
 use duart::{Device, Duart, EventRecord, Seen};
@@ -28,6 +29,10 @@ pub struct Tally {
     /// Accepted reads of a receive buffer.
     pub fresh: u64,
     pub stale: u64,
+    /// Accepted writes that change a mode.
+    pub mode_changes: u64,
+    /// Ticks and pin events with a channel in an echo mode whose transmitter is not idle: no script reaches that.
+    pub odd_echoes: u64,
 }
 
 /// A device that was not treated as it should be.
@@ -99,6 +104,8 @@ fn try_event(device: Device, event: EventRecord, tally: &mut Tally) -> Result<()
     let read = seen.number == 0 && buffer_read(&device, event).is_some();
     tally.fresh += u64::from(read && seen.fresh);
     tally.stale += u64::from(read && !seen.fresh);
+    tally.mode_changes += u64::from(seen.number == 0 && modes::mode_changed(&device, event).is_some());
+    tally.odd_echoes += u64::from(seen.number == 0 && is_odd_echo(&device, event));
     match fault {
         None => Ok(()),
         Some(why) => Err(Box::new(Failure {
@@ -139,8 +146,15 @@ fn fault_when_sound(
     } else if !chip.is_sound() || !sound::is_sound(chip.device()) {
         Some("it was sound, and the new state is not")
     } else {
-        fault_of_fresh(device, event, seen, chip)
+        fault_of_fresh(device, event, seen, chip).or_else(|| modes::fault(device, event, seen, chip.device()))
     }
+}
+
+/// A tick or a pin event, and a frame, a break or the high bit after it in an echo mode.
+fn is_odd_echo(device: &Device, event: EventRecord) -> bool {
+    let sides = [&device.front.a, &device.front.b];
+    let odd = sides.iter().any(|side| modes::echoes(side) && side.transmitter.phase != 0);
+    matches!(event.kind, 4 | 5) && odd
 }
 
 /// The receiver whose buffer an event reads, if it does.
@@ -236,5 +250,6 @@ mod tests {
         assert!(tally.sound > 200 && tally.unsound > 200);
         assert!(tally.accepted > 0 && tally.refused > 0);
         assert!(tally.fresh > 0 && tally.stale > 0);
+        assert!(tally.mode_changes > 0 && tally.odd_echoes > 0);
     }
 }

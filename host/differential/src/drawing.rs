@@ -144,6 +144,7 @@ impl Drawing<'_> {
             moved: self.flag(),
             csr: self.byte(),
             enabled: self.flag(),
+            echo: self.flag(),
             transmitter: self.transmitter(),
             phases: Phases {
                 receiver: Ticks(self.number(4607)),

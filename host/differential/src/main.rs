@@ -11,6 +11,10 @@ mod frames;
 mod generator;
 mod interface;
 mod line;
+mod loops;
+mod mode_coverage;
+mod modes;
+mod moment;
 mod pair;
 mod program;
 mod rates;
@@ -62,8 +66,14 @@ fn run_devices(seed: u64) -> Result<String, ()> {
     println!("{:>10} events on them refused", tally.refused);
     println!("{:>10} fresh reads of them", tally.fresh);
     println!("{:>10} stale reads of them", tally.stale);
+    println!("{:>10} mode changes of them", tally.mode_changes);
+    println!("{:>10} ticks and pin events on them, sending in an echo mode", tally.odd_echoes);
     if tally.fresh == 0 || tally.stale == 0 {
         println!("no drawn device was read fresh, or none stale");
+        return Err(());
+    }
+    if tally.mode_changes == 0 || tally.odd_echoes == 0 {
+        println!("no drawn device changed its mode, or none was sending in an echo mode");
         return Err(());
     }
     Ok(format!("{DEVICES} devices"))

@@ -2,7 +2,7 @@
 //! accesses that are refused.
 
 use crate::script::{Channel, Script, Stepped};
-use duart::{Event, EventRecord};
+use duart::{mode, Event, EventRecord};
 
 impl Script<'_> {
     pub fn any_channel(&mut self) -> Channel {
@@ -45,12 +45,17 @@ impl Script<'_> {
         bits_6_5 | parity | self.draws.small(8)
     }
 
-    /// All stop codes, now and then with CTS; seldom a byte that may not be modelled.
+    /// All stop codes, now and then with CTS, mostly in normal mode; seldom a byte that may not be modelled.
     fn some_mr2(&mut self) -> u8 {
         if self.draws.one_in(12) {
             return self.draws.byte();
         }
-        self.draws.pick(&[0x00, 0x00, 0x00, 0x10]) | self.draws.small(16)
+        let mode = if self.draws.one_in(6) {
+            self.draws.small(4) << 6
+        } else {
+            mode::NORMAL
+        };
+        mode | self.draws.pick(&[0x00, 0x00, 0x00, 0x10]) | self.draws.small(16)
     }
 
     /// Often one code for both sides.
@@ -233,7 +238,7 @@ impl Script<'_> {
 
     /// Something short, at any moment: in a character too.
     pub fn disturb(&mut self) -> Stepped {
-        match self.draws.below(18) {
+        match self.draws.below(20) {
             0..=2 => self.any_command(),
             3 => {
                 let channel = self.any_channel();
@@ -248,6 +253,10 @@ impl Script<'_> {
             10 => self.any_pins(),
             11 => self.any_record(),
             12 => self.move_cts(),
+            18 | 19 => {
+                let channel = self.any_channel();
+                self.disturb_mode(channel)
+            }
             _ => self.any_read(),
         }
     }

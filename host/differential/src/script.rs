@@ -1,7 +1,7 @@
 //! One script under way: the pair of chips, the draws, the wires from TxD to RxD, and the clocks that bring
 //! a channel its pulses. What a script does is in scripts.rs and program.rs.
 
-use crate::coverage::Coverage;
+use crate::coverage::{Coverage, PIN_EVENT};
 use crate::generator::Generator;
 use crate::pair::{Difference, Pair};
 use duart::device::{Device, Sampler, Side};
@@ -45,6 +45,10 @@ pub enum Clock {
 
 /// IP2 to IP5, the clocks of both channels.
 const CLOCK_PINS: u8 = 0x3c;
+/// IP3 and IP5, on whose falling edges a transmitter has its pulse.
+const FALLING_PINS: u8 = 0x28;
+/// IP4 and IP2, on whose rising edges a receiver has its pulse.
+const RISING_PINS: u8 = 0x14;
 const IP2: u8 = 0x04;
 /// A wait for a slow clock is usually broken off after so many events; its phase goes on with the next.
 const PATIENCE: u64 = 12;
@@ -83,6 +87,8 @@ pub struct Script<'a> {
     pub draws: Generator,
     pub wires: Wires,
     pub pair: Pair,
+    /// The pins as they were driven last; what the chip makes of them is its own.
+    levels: u8,
     coverage: &'a mut Coverage,
 }
 
@@ -93,6 +99,7 @@ impl Script<'_> {
             draws: Generator::with_seed(seed),
             wires: Wires::default(),
             pair: Pair::fresh(),
+            levels: 0xff,
             coverage,
         }
     }
@@ -124,15 +131,17 @@ impl Script<'_> {
     /// One event, and where it moves a wired TxD, the pin event that the wire makes of it.
     pub fn step_record(&mut self, record: EventRecord) -> Result<Seen, Difference> {
         let seen = self.step_once(record)?;
-        let levels = self.device().front.inputs.levels;
-        let pulled = self.wires.pull(levels, seen);
-        if pulled != levels {
+        let pulled = self.wires.pull(self.levels, seen);
+        if pulled != self.levels {
             self.step_once(Event::Pins(pulled).into())?;
         }
         Ok(seen)
     }
 
     fn step_once(&mut self, record: EventRecord) -> Result<Seen, Difference> {
+        if record.kind == PIN_EVENT {
+            self.levels = record.byte;
+        }
         let seen = self.pair.step(record)?;
         let (before, after) = (self.pair.device_before(), self.pair.device());
         self.coverage.see(before, record, seen, after);
@@ -160,8 +169,7 @@ impl Script<'_> {
 
     /// Drives some pins and leaves the others.
     pub fn drive(&mut self, bits: u8, high: bool) -> Stepped {
-        let levels = self.device().front.inputs.levels;
-        let event = Event::Pins(with_bits(levels, bits, high));
+        let event = Event::Pins(with_bits(self.levels, bits, high));
         self.step(event).map(|_| ())
     }
 
@@ -230,8 +238,14 @@ impl Script<'_> {
         Ok(())
     }
 
-    /// Usually all four clock pins, so that each side that goes by a pin gets its pulse.
+    /// Usually all four clock pins, so that each side that goes by a pin gets its pulse; now and then in one event, in
+    /// which the transmitters' pins fall and the receivers' rise.
     fn pin_pulse(&mut self) -> Stepped {
+        if self.draws.one_in(16) {
+            let levels = self.levels & !CLOCK_PINS;
+            self.step(Event::Pins(levels | FALLING_PINS))?;
+            return self.step(Event::Pins(levels | RISING_PINS)).map(|_| ());
+        }
         let pins = if self.draws.one_in(64) {
             CLOCK_PINS & self.draws.byte()
         } else {

@@ -58,7 +58,7 @@ impl Script<'_> {
     }
 
     fn act(&mut self) -> Stepped {
-        match self.draws.below(64) {
+        match self.draws.below(88) {
             0..=11 => self.receive(),
             12..=17 => self.send_over_wires(),
             18..=21 => self.send(),
@@ -75,6 +75,9 @@ impl Script<'_> {
                 let channel = self.any_channel();
                 self.poll(channel)
             }
+            64..=74 => self.loop_back(),
+            75..=83 => self.echo(),
+            84..=87 => self.time_mode(),
             _ => self.disturb(),
         }
     }
@@ -121,14 +124,18 @@ impl Script<'_> {
     }
 
     /// A level on the line for its time, with something else in between now and then.
-    fn hold(&mut self, channel: Channel, lines: u8, span: line::Span) -> Stepped {
+    pub fn hold(&mut self, channel: Channel, lines: u8, span: line::Span) -> Stepped {
         self.drive(lines, span.high)?;
         let one_x = self.is_one_x(channel, Clock::Receiver);
         let pulses = u64::from(span.pulses(one_x));
-        // After a low stop and in a break the receiver goes by rules that few other moments show.
-        let rare = matches!(self.sampler(channel).phase, 3 | 4);
-        if self.draws.one_in(if rare { 3 } else { 10 }) {
-            let first = self.draws.below(pulses + 1);
+        if self.draws.one_in(if self.is_rare(channel) { 3 } else { 10 }) {
+            // Early more often: there a start is not confirmed yet.
+            let most = if self.draws.one_in(3) {
+                pulses.min(8)
+            } else {
+                pulses
+            };
+            let first = self.draws.below(most + 1);
             self.pulses(channel, Clock::Receiver, first)?;
             self.disturb_line(channel)?;
             self.pulses(channel, Clock::Receiver, pulses - first)?;
@@ -139,12 +146,23 @@ impl Script<'_> {
         if span.is_break() && self.draws.flip() {
             self.command(channel, 0x50)?;
         }
+        if self.is_rare(channel) && self.draws.one_in(8) {
+            return self.disturb_mode(channel);
+        }
         Ok(())
     }
 
+    /// After a low stop and in a break the receiver goes by rules that few other moments show.
+    fn is_rare(&self, channel: Channel) -> bool {
+        matches!(self.sampler(channel).phase, 3 | 4)
+    }
+
     /// Whatever else is done, what a pulse means is changed where it can be: a character, a low stop and a
-    /// break's end each go on by another rule then.
-    fn disturb_line(&mut self, channel: Channel) -> Stepped {
+    /// break's end each go on by another rule then. Or the mode is changed, which drops them all.
+    pub fn disturb_line(&mut self, channel: Channel) -> Stepped {
+        if self.draws.one_in(if self.is_rare(channel) { 2 } else { 4 }) {
+            return self.disturb_mode(channel);
+        }
         if self.goes_by_pins(channel) && self.draws.flip() {
             return self.change_pulses_per_bit(channel);
         }
@@ -223,6 +241,9 @@ impl Script<'_> {
         if self.draws.flip() {
             self.send_now(channel)?;
         }
+        if self.draws.one_in(8) {
+            self.disturb_mode(channel)?;
+        }
         let end = self
             .draws
             .pick(&[0x70, 0x70, 0x70, 0x08, 0x30, 0x34, 0x60, 0x68]);
@@ -233,7 +254,11 @@ impl Script<'_> {
             self.command(channel, again)?;
         }
         let pulses = self.draws.below(40);
-        self.pulses(channel, Clock::Transmitter, pulses)
+        self.pulses(channel, Clock::Transmitter, pulses)?;
+        if self.draws.one_in(8) {
+            return self.disturb_mode(channel);
+        }
+        Ok(())
     }
 
     fn send_now(&mut self, channel: Channel) -> Stepped {

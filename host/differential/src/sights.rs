@@ -40,10 +40,76 @@ pub enum Sight {
     HighBitsAfterBreaks,
     CounterTerminals,
     TimerTerminals,
+    NormalAgain,
+    NormalToEcho,
+    NormalToLocal,
+    NormalToRemote,
+    EchoToNormal,
+    EchoAgain,
+    EchoToLocal,
+    EchoToRemote,
+    LocalToNormal,
+    LocalToEcho,
+    LocalAgain,
+    LocalToRemote,
+    RemoteToNormal,
+    RemoteToEcho,
+    RemoteToLocal,
+    RemoteAgain,
+    ChangeInFrameAt16X,
+    ChangeInFrameAt1X,
+    ChangeInBreak,
+    ChangeInHighBit,
+    ChangeWithHolding,
+    ChangeWithBreakAsked,
+    ChangeBeforeConfirmed,
+    ChangeInCharacterAt16X,
+    ChangeInCharacterAt1X,
+    ChangeAfterLowStop,
+    ChangeInBreakReceived,
+    ChangeWithWaiting,
+    ChangeWhileDisabled,
+    ChangeOnTicks,
+    ChangeOnTimer,
+    ChangeOnPin16X,
+    ChangeOnPin1X,
+    ChangeWithinPeriod,
+    ChangeRaisesTxd,
+    ChangeWithdrawsIrq,
+    SameModeUnderWay,
+    RefusedModeUnderWay,
+    LoopedOnTicks,
+    LoopedOnTimer,
+    LoopedOnPin16X,
+    LoopedOnPin1X,
+    LoopedWithOtherCode,
+    LoopedWithRxdLow,
+    LoopedBreaks,
+    LoopedBreakEnds,
+    LoopedOverruns,
+    LoopedStartsUnheard,
+    LoopedCtsWaits,
+    LoopedOnBothEdges,
+    LoopedLowsReset,
+    LoopedRxdMoves,
+    EchoedLows,
+    EchoedCharacters,
+    RemoteLows,
+    RemotePulsesReady,
+    EchoedOnBothEdges,
+    EchoReadsTxRdy0,
+    EchoWrites,
+    EchoBreaksAsked,
+    EchoRaisedByDisable,
+    EchoRaisedByReset,
+    EchoRaisedByResetAndEnable,
+    EchoRaisedByTransmitter,
+    EchoLeftByCommands,
+    EchoCounts,
 }
 
 /// Each sight by its name, in the order of the enum.
-pub const SIGHTS: [(Sight, &str); 37] = [
+pub const SIGHTS: [(Sight, &str); 103] = [
     (Sight::ChipResets, "chip resets"),
     (Sight::Reads, "reads"),
     (Sight::Writes, "writes"),
@@ -81,16 +147,127 @@ pub const SIGHTS: [(Sight, &str); 37] = [
     (Sight::HighBitsAfterBreaks, "high bits after breaks"),
     (Sight::CounterTerminals, "terminal counts, counter"),
     (Sight::TimerTerminals, "terminal counts, timer"),
+    (Sight::NormalAgain, "normal mode again"),
+    (Sight::NormalToEcho, "normal mode to automatic echo"),
+    (Sight::NormalToLocal, "normal mode to local loopback"),
+    (Sight::NormalToRemote, "normal mode to remote loopback"),
+    (Sight::EchoToNormal, "automatic echo to normal mode"),
+    (Sight::EchoAgain, "automatic echo again"),
+    (Sight::EchoToLocal, "automatic echo to local loopback"),
+    (Sight::EchoToRemote, "automatic echo to remote loopback"),
+    (Sight::LocalToNormal, "local loopback to normal mode"),
+    (Sight::LocalToEcho, "local loopback to automatic echo"),
+    (Sight::LocalAgain, "local loopback again"),
+    (Sight::LocalToRemote, "local loopback to remote loopback"),
+    (Sight::RemoteToNormal, "remote loopback to normal mode"),
+    (Sight::RemoteToEcho, "remote loopback to automatic echo"),
+    (Sight::RemoteToLocal, "remote loopback to local loopback"),
+    (Sight::RemoteAgain, "remote loopback again"),
+    (Sight::ChangeInFrameAt16X, "mode changes in a frame at 16X"),
+    (Sight::ChangeInFrameAt1X, "in a frame at 1X"),
+    (Sight::ChangeInBreak, "in a break that is sent"),
+    (Sight::ChangeInHighBit, "in the high bit after a break"),
+    (Sight::ChangeWithHolding, "with the holding place full"),
+    (Sight::ChangeWithBreakAsked, "with a break asked"),
+    (Sight::ChangeBeforeConfirmed, "between p and p+8"),
+    (Sight::ChangeInCharacterAt16X, "in a character at 16X"),
+    (Sight::ChangeInCharacterAt1X, "in a character at 1X"),
+    (Sight::ChangeAfterLowStop, "after a low stop"),
+    (Sight::ChangeInBreakReceived, "before a received break's end"),
+    (Sight::ChangeWithWaiting, "with a character waiting"),
+    (Sight::ChangeWhileDisabled, "with the receiver disabled"),
+    (Sight::ChangeOnTicks, "under way on ticks"),
+    (Sight::ChangeOnTimer, "under way on the timer"),
+    (Sight::ChangeOnPin16X, "under way on a pin at 16X"),
+    (Sight::ChangeOnPin1X, "under way on a pin at 1X"),
+    (Sight::ChangeWithinPeriod, "within a period of ticks"),
+    (Sight::ChangeRaisesTxd, "that raise TxD"),
+    (Sight::ChangeWithdrawsIrq, "that withdraw IRQ"),
+    (Sight::SameModeUnderWay, "the same mode again, under way"),
+    (Sight::RefusedModeUnderWay, "a refused mode, under way"),
+    (Sight::LoopedOnTicks, "characters looped, on ticks"),
+    (Sight::LoopedOnTimer, "looped on the timer"),
+    (Sight::LoopedOnPin16X, "looped on a pin at 16X"),
+    (Sight::LoopedOnPin1X, "looped on a pin at 1X"),
+    (Sight::LoopedWithOtherCode, "looped, another code to receive"),
+    (Sight::LoopedWithRxdLow, "looped, RxD low"),
+    (Sight::LoopedBreaks, "looped breaks"),
+    (Sight::LoopedBreakEnds, "ends of looped breaks"),
+    (Sight::LoopedOverruns, "looped overruns"),
+    (Sight::LoopedStartsUnheard, "looped starts before a high"),
+    (Sight::LoopedCtsWaits, "looped, held by CTS"),
+    (Sight::LoopedOnBothEdges, "looped, both pins' edges at once"),
+    (Sight::LoopedLowsReset, "looped lows raised by a reset"),
+    (Sight::LoopedRxdMoves, "RxD moved in local loopback"),
+    (Sight::EchoedLows, "lows echoed in automatic echo"),
+    (Sight::EchoedCharacters, "received in automatic echo"),
+    (Sight::RemoteLows, "lows echoed in remote loopback"),
+    (Sight::RemotePulsesReady, "remote pulses, one held"),
+    (Sight::EchoedOnBothEdges, "echoed, both pins' edges at once"),
+    (Sight::EchoReadsTxRdy0, "SR reads, TxRDY 0 by the mode"),
+    (Sight::EchoWrites, "bytes held in an echo mode"),
+    (Sight::EchoBreaksAsked, "breaks asked in an echo mode"),
+    (Sight::EchoRaisedByDisable, "echoes raised by disable receiver"),
+    (Sight::EchoRaisedByReset, "by reset receiver"),
+    (Sight::EchoRaisedByResetAndEnable, "by its reset and enable"),
+    (Sight::EchoRaisedByTransmitter, "by reset transmitter"),
+    (Sight::EchoLeftByCommands, "left low by other commands"),
+    (Sight::EchoCounts, "counts of TxC 1X in an echo mode"),
+];
+
+/// An accepted write at MR2, by the mode before it and the one that it writes: twelve mode changes, and four writes
+/// that are none.
+pub const MODE_WRITES: [[Sight; 4]; 4] = [
+    [
+        Sight::NormalAgain,
+        Sight::NormalToEcho,
+        Sight::NormalToLocal,
+        Sight::NormalToRemote,
+    ],
+    [
+        Sight::EchoToNormal,
+        Sight::EchoAgain,
+        Sight::EchoToLocal,
+        Sight::EchoToRemote,
+    ],
+    [
+        Sight::LocalToNormal,
+        Sight::LocalToEcho,
+        Sight::LocalAgain,
+        Sight::LocalToRemote,
+    ],
+    [
+        Sight::RemoteToNormal,
+        Sight::RemoteToEcho,
+        Sight::RemoteToLocal,
+        Sight::RemoteAgain,
+    ],
 ];
 
 #[cfg(test)]
 mod tests {
-    use super::SIGHTS;
+    use super::{MODE_WRITES, SIGHTS};
 
     #[test]
     fn the_names_stand_in_the_order_of_the_enum() {
         for (place, (sight, _)) in SIGHTS.iter().enumerate() {
             assert_eq!(*sight as usize, place);
+        }
+    }
+
+    #[test]
+    fn a_name_has_one_sight() {
+        for (sight, name) in SIGHTS {
+            let mut others = SIGHTS.iter().filter(|(other, _)| *other != sight);
+            assert!(!others.any(|(_, other)| *other == name), "{name}");
+        }
+    }
+
+    #[test]
+    fn the_mode_writes_stand_in_the_order_of_the_enum() {
+        let first = MODE_WRITES[0][0] as usize;
+        for (place, sight) in MODE_WRITES.iter().flatten().enumerate() {
+            assert_eq!(*sight as usize, first + place);
         }
     }
 }

@@ -19,9 +19,9 @@ pub fn is_accepted_mr1(mr1: u8) -> bool {
     mr1 & 0x80 == 0 && mr1 & 0x18 != 0x18
 }
 
-/// MR2: bits 7 to 5 clear.
+/// MR2: any value with bit 5 clear.
 pub fn is_accepted_mr2(mr2: u8) -> bool {
-    mr2 & 0xe0 == 0
+    mr2 & 0x20 == 0
 }
 
 /// OPCR: bits 1-0 clear, and bit 3 clear.
@@ -78,6 +78,15 @@ mod tests {
     #[test]
     fn a_fresh_device_is_sound() {
         assert!(is_sound(Duart::fresh().device()));
+    }
+
+    #[test]
+    fn of_mr2_bit_5_alone_is_not() {
+        let mut device = *Duart::fresh().device();
+        for mr2 in 0..=255 {
+            device.front.a.mr2 = mr2;
+            assert_eq!(is_sound(&device), (mr2 >> 5) & 1 == 0, "MR2 {mr2}");
+        }
     }
 
     #[test]

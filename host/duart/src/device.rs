@@ -132,7 +132,7 @@ pub struct Transmitter {
     pub left: Pulses,
     /// a break is asked and has not begun
     pub asked: bool,
-    /// the level of TxD
+    /// the transmitter's own level: in normal mode TxD, in local loopback what the receiver samples
     pub txd: bool,
 }
 
@@ -151,12 +151,15 @@ pub struct Phases {
 #[derive(Clone, Copy, Debug, PartialEq, Eq)]
 pub struct Side {
     pub mr1: u8,
+    /// bits 7-6 are the [mode](crate::mode)
     pub mr2: u8,
     /// the pointer has moved from MR1 to MR2
     pub moved: bool,
     pub csr: u8,
     /// the receiver's enable
     pub enabled: bool,
+    /// the level that the echo modes put on TxD, high where nothing has been echoed
+    pub echo: bool,
     pub transmitter: Transmitter,
     pub phases: Phases,
 }

@@ -16,6 +16,7 @@
 
 mod archive;
 pub mod device;
+pub mod mode;
 
 pub use device::Device;
 
@@ -73,6 +74,7 @@ pub struct Seen {
     pub fresh: bool,
     /// IRQ, true when asserted
     pub irq: bool,
+    /// the level of the pin: high in local loopback, what is echoed in the echo modes
     pub txda: bool,
     pub txdb: bool,
     /// bit n is the level of OPn
@@ -83,7 +85,7 @@ pub struct Seen {
 #[repr(C)]
 #[derive(Clone, Copy, Debug, PartialEq, Eq)]
 pub struct FrameAnswer {
-    /// 0, 5 (a setting that is not modelled) or 8 (the space is too short)
+    /// 0, 5 (a setting that is not modelled: MR1 bit 7 or bits 4-3 = 11, MR2 bit 5) or 8 (the space is too short)
     pub number: u8,
     /// the levels written, at most 192; 0 if refused
     pub length: u8,
@@ -134,17 +136,18 @@ impl Default for Duart {
 }
 
 /// Writes the levels of a frame, one byte 0 or 1 for each 16X pulse, over the front of `space`. A refused request writes
-/// nothing.
+/// nothing. MR2 bits 7-6 and 4, the mode and CTS, are allowed and not used.
 pub fn frame(mr1: u8, mr2: u8, byte: u8, space: &mut [u8]) -> FrameAnswer {
     archive::frame(mr1, mr2, byte, space)
 }
 
 #[cfg(test)]
 mod tests {
-    use super::{Duart, Event, Seen};
+    use super::{mode, Duart, Event, Seen};
 
-    /// IP4, whose rising edges are the receiver's 1X clock, and RxDA.
+    /// IP4, whose rising edges are the receiver's 1X clock, IP3, whose falling edges are the transmitter's, and RxDA.
     const IP4: u8 = 0x10;
+    const IP3: u8 = 0x08;
     const RXDA: u8 = 0x40;
 
     fn receiving() -> Duart {
@@ -206,5 +209,33 @@ mod tests {
         assert!(!chip.step(Event::Read(19)).fresh);
         assert!(!chip.step(Event::Read(11)).fresh);
         assert_eq!(read(&mut chip), (42, true));
+    }
+
+    /// A byte is written and 11 pulses of the transmitter's clock pass, TxDA being high: what has come.
+    fn round(chip: &mut Duart, byte: u8) -> (u8, bool) {
+        chip.step(Event::Write(3, byte));
+        for _ in 0..11 {
+            chip.step(Event::Pins(0xff));
+            assert!(chip.step(Event::Pins(0xff & !IP3)).txda);
+        }
+        read(chip)
+    }
+
+    #[test]
+    fn a_byte_comes_round_in_local_loopback_once_a_pulse_has_passed() {
+        let mut chip = receiving();
+        for (register, byte) in [(0, mode::LOCAL_LOOPBACK), (2, 0x04)] {
+            assert_eq!(chip.step(Event::Write(register, byte)).number, 0);
+        }
+        assert_eq!(round(&mut chip, 0xff), (0, false), "no high before the start bit");
+        assert_eq!(round(&mut chip, 0x55), (0x55, true));
+    }
+
+    #[test]
+    fn of_mr2_bit_5_alone_is_refused() {
+        for mr2 in 0..=255 {
+            let number = receiving().step(Event::Write(0, mr2)).number;
+            assert_eq!(number, if mr2 & 0x20 == 0 { 0 } else { 5 }, "MR2 {mr2}");
+        }
     }
 }

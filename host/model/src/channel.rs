@@ -2,8 +2,9 @@
 //! their pins.
 
 use crate::clock::{Clock, Moment, Source};
-use crate::format::{Format, Setting};
+use crate::format::{ClockKind, Format, Setting};
 use crate::level::Level;
+use crate::mode::{Line, Mode};
 use crate::pins::{Edge, Pin};
 use crate::receiver::{ErrorMode, Receiver};
 use crate::transmitter::{Standing, Transmitter};
@@ -62,6 +63,8 @@ pub struct Channel {
     csr: u8,
     receiver_clock: Clock,
     transmitter_clock: Clock,
+    /// The level that is echoed; high where nothing is.
+    echo: Level,
     pub transmitter: Transmitter,
     pub receiver: Receiver,
 }
@@ -78,6 +81,7 @@ impl Channel {
             csr: 0,
             receiver_clock: Clock::restarted(source, pins.receiver_clock),
             transmitter_clock: Clock::restarted(source, pins.transmitter_clock),
+            echo: Level::High,
             transmitter: Transmitter::after_chip_reset(),
             receiver: Receiver::after_chip_reset(),
         }
@@ -85,19 +89,20 @@ impl Channel {
 
     // ------------------------------------------------------------ ticks and pins
 
-    /// "transmitter then receiver of A; the same of B"
+    /// "transmitter then receiver of A; the same of B". Both clocks run in every mode.
     pub fn clocked(&mut self, moment: Moment) -> Pulses {
         let transmitter = self.transmitter_clock.pulses(moment);
         if transmitter {
-            let cts = moment.pins.now.level(self.pins.cts);
-            self.transmitter.pulse(self.standing(cts));
+            self.pulse_transmitter(moment.pins.now.level(self.pins.cts));
         }
         let receiver = self.receiver_clock.pulses(moment);
-        if receiver {
-            let rxd = moment.pins.now.level(self.pins.rxd);
-            let setting = self.setting_by(&self.receiver_clock);
-            self.receiver.pulse(rxd, setting);
-        }
+        let outside = Line {
+            pulses: receiver,
+            level: moment.pins.now.level(self.pins.rxd),
+            clock_kind: self.receiver_clock.clock_kind(),
+        };
+        self.pulse_echo(outside);
+        self.pulse_receiver(outside, transmitter);
         Pulses {
             receiver,
             transmitter,
@@ -105,16 +110,45 @@ impl Channel {
         }
     }
 
-    fn setting_by(&self, clock: &Clock) -> Setting {
+    /// Order 2, in the echo modes: "no character or break starts". A pulse does nothing there.
+    fn pulse_transmitter(&mut self, cts: Level) {
+        if !self.mode().echoes() {
+            self.transmitter.pulse(self.standing(cts));
+        }
+    }
+
+    /// Order 2: "at each pulse of an enabled receiver TxD takes the sampled level", whatever the receiver
+    /// makes of it.
+    fn pulse_echo(&mut self, outside: Line) {
+        if outside.pulses && self.mode().echoes() && self.receiver.is_enabled() {
+            self.echo = outside.level;
+        }
+    }
+
+    /// In local loopback the level is the one that this same pulse has just put out: "transmitter then
+    /// receiver".
+    fn pulse_receiver(&mut self, outside: Line, transmitter_pulses: bool) {
+        let transmitter = Line {
+            pulses: transmitter_pulses,
+            level: self.transmitter.txd(),
+            clock_kind: self.transmitter_clock.clock_kind(),
+        };
+        if let Some(line) = self.mode().heard(outside, transmitter) {
+            let setting = self.setting(line.clock_kind);
+            self.receiver.pulse(line.level, setting);
+        }
+    }
+
+    fn setting(&self, clock_kind: ClockKind) -> Setting {
         Setting {
             format: Format::from_registers(self.mr1, self.mr2),
-            clock_kind: clock.clock_kind(),
+            clock_kind,
         }
     }
 
     fn standing(&self, cts: Level) -> Standing {
         Standing {
-            setting: self.setting_by(&self.transmitter_clock),
+            setting: self.setting(self.transmitter_clock.clock_kind()),
             // "MR2: bit 4 CTS"
             cts_chosen: self.mr2 >> 4 & 1 == 1,
             cts,
@@ -144,8 +178,30 @@ impl Channel {
                 self.pointer = Pointer::Mr2;
                 self.mr1 = byte;
             }
-            Pointer::Mr2 => self.mr2 = byte,
+            Pointer::Mr2 => self.write_mr2(byte),
         }
+    }
+
+    fn mode(&self) -> Mode {
+        Mode::from_mr2(self.mr2)
+    }
+
+    /// The same two bits 7-6 again are no mode change, whatever else the byte changes.
+    fn write_mr2(&mut self, mr2: u8) {
+        let mode_before = self.mode();
+        self.mr2 = mr2;
+        if self.mode() != mode_before {
+            self.change_mode();
+        }
+    }
+
+    /// Order 2: "A mode change drops what is being sent (a break too; the holding place stays) or put
+    /// together, leaves an enabled receiver as just enabled, and holds TxD high until the next pulse." That
+    /// pulse may lower it.
+    fn change_mode(&mut self) {
+        self.transmitter.drop_what_is_sent();
+        self.receiver.drop_what_is_put_together();
+        self.echo = Level::High;
     }
 
     /// "A CSR write restarts that channel's phases", with the same value too.
@@ -172,9 +228,34 @@ impl Channel {
         }
         self.transmitter.command(bits_6_4, byte >> 2 & 0b11);
         self.receiver.command(bits_6_4, byte & 0b11);
+        self.command_echo(bits_6_4, byte & 0b11);
+    }
+
+    /// Order 2: "(high while disabled)", of the receiver: its reset (2) and its disable raise the echo, where
+    /// the same command enables again too. "3 reset transmitter (disabled, all dropped, TxD high)" raises it
+    /// as well, until the receiver's next pulse.
+    fn command_echo(&mut self, bits_6_4: u8, bits_1_0: u8) {
+        if matches!(bits_6_4, 2 | 3) || bits_1_0 == 0b10 {
+            self.echo = Level::High;
+        }
     }
 
     // ------------------------------------------------------------ what it shows
+
+    /// The level of the pin.
+    pub fn txd(&self) -> Level {
+        self.mode().txd(self.transmitter.txd(), self.echo)
+    }
+
+    /// Order 2, in the echo modes: "TxRDY and TxEMT read 0". TxRDY is one bit wherever it shows, in SR, in
+    /// ISR and on the pins.
+    pub fn txrdy(&self) -> bool {
+        !self.mode().echoes() && self.transmitter.txrdy()
+    }
+
+    fn txemt(&self) -> bool {
+        !self.mode().echoes() && self.transmitter.txemt()
+    }
 
     /// "SR bits 7-0: break, framing, parity, overrun, TxEMT, TxRDY, FFULL, RxRDY."
     pub fn status(&self) -> u8 {
@@ -183,8 +264,8 @@ impl Channel {
         } else {
             ErrorMode::Character
         };
-        let txemt = if self.transmitter.txemt() { TXEMT } else { 0 };
-        let txrdy = if self.transmitter.txrdy() { TXRDY } else { 0 };
+        let txemt = if self.txemt() { TXEMT } else { 0 };
+        let txrdy = if self.txrdy() { TXRDY } else { 0 };
         self.receiver.status(error_mode) | txemt | txrdy
     }
 

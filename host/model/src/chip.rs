@@ -113,8 +113,8 @@ impl Chip {
             data,
             fresh,
             irq: self.irq_is_asserted(isr),
-            txda: self.a.transmitter.txd().is_high(),
-            txdb: self.b.transmitter.txd().is_high(),
+            txda: self.a.txd().is_high(),
+            txdb: self.b.txd().is_high(),
             op: self.outputs.pins(isr, self.counter_timer.op3()),
         }
     }

@@ -22,5 +22,5 @@ impl Chip {
 fn channel_bits(channel: &Channel) -> u8 {
     u8::from(channel.receiver.break_change()) << 2
         | u8::from(channel.isr_receiver()) << 1
-        | u8::from(channel.transmitter.txrdy())
+        | u8::from(channel.txrdy())
 }

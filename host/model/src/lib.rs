@@ -13,6 +13,7 @@ pub mod counter_timer;
 pub mod format;
 pub mod frame;
 pub mod level;
+pub mod mode;
 pub mod pins;
 pub mod ports;
 pub mod queue;

@@ -211,6 +211,14 @@ impl Receiver {
         self.sampler = Sampler::Disabled;
     }
 
+    /// Order 2: "A mode change drops what is being sent" "or put together, leaves an enabled receiver as just
+    /// enabled": hunting with no high seen, from wherever it was.
+    pub fn drop_what_is_put_together(&mut self) {
+        if self.is_enabled() {
+            self.sampler = Sampler::Hunting { high_seen: false };
+        }
+    }
+
     // ------------------------------------------------------------ what it shows
 
     pub fn break_change(&self) -> bool {

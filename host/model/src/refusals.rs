@@ -58,9 +58,10 @@ pub fn mr1_is_modelled(mr1: u8) -> bool {
     mr1 >> 7 == 0 && mr1 >> 3 & 0b11 != 0b11
 }
 
-/// "MR2 bits 7-6 not 00, or bit 5 set"
+/// "MR2 bits 7-6 not 00, or bit 5 set", of which order 2 leaves the last: "Refusals: 5 no longer covers MR2
+/// bits 7-6."
 pub fn mr2_is_modelled(mr2: u8) -> bool {
-    mr2 >> 6 == 0b00 && mr2 >> 5 & 1 == 0
+    mr2 >> 5 & 1 == 0
 }
 
 /// "OPCR bits 1-0 not 00, or bits 3-2 = 10 or 11."

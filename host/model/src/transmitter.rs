@@ -176,8 +176,15 @@ impl Transmitter {
         }
     }
 
+    /// Order 2: "A mode change drops what is being sent (a break too; the holding place stays)". The high bit
+    /// after a break is dropped too, nothing is owed, and a break that is only asked stays asked.
+    pub fn drop_what_is_sent(&mut self) {
+        self.send_nothing();
+    }
+
     // ------------------------------------------------------------ what it shows
 
+    /// The transmitter's own level; what the pin shows goes by the mode.
     pub fn txd(&self) -> Level {
         self.txd
     }

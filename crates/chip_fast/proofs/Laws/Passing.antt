@@ -7,7 +7,6 @@ use native.Mathlib.Omega.{arith}
 use lib.Dec.{eqb, ltb, eqb·suc-zero}
 use borrow.Author.Tests.{lt-ltb, le-ltb}
 use Rattle.format.specs.Pick.{pick}
-use Rattle.format.proofs.Laws.Pick.{pick-all}
 use Rattle.bytes.specs.Bytes.{hasBit}
 use Rattle.dividers.proofs.Laws.Divider.{ticksOf}
 use Rattle.clocks.specs.Channel.{sideRoom}
@@ -18,11 +17,11 @@ use Rattle.timer.specs.Timer.{transmittedBy}
 use Rattle.timer.specs.Passing.{timerRoom, timerPassed}
 use Rattle.timer.proofs.Laws.Passing.{timer-passes}
 use Rattle.inputs.specs.Inputs.{pinsOfA, pinsOfB}
-use Rattle.feed.specs.declared.feed.Feed.{Feed}
 use Rattle.feed.specs.declared.feed.Feed.the-variants.{Nothing}
 use Rattle.receiver.specs.Receiver.{fedOf}
 use Rattle.front_side.specs.declared.side.Side.{Side}
-use Rattle.front_side_clocks.specs.Clocking.{transmitterPulsed, lineOf, sideClocked}
+use Rattle.front_side_clocks.specs.Clocking.{transmitterPulsed, echoTaken, sideClocked}
+use Rattle.front_side_clocks.proofs.Laws.Hears.{hears-nothing}
 use Rattle.front.specs.declared.front.Front.{Front}
 use Rattle.front_clocks.specs.Clocking.{countedOf, clockedWith, clockedOf as frontClocked, tickedOf}
 use Rattle.events.specs.declared.events.Event.the-variants.{Tick}
@@ -72,11 +71,11 @@ not-transmitted t mode = ap (λ (x : Bool). pulsedBy t mode x .timer) (no-pulses
 side-on : (s : Side) (acr : ℕ) (cts rxd : Bool) → 0 < channelRoom s acr
     → sideClocked s (eqb (acr / 128) 1) (record { cts = cts; rxd = rxd; rising = false; falling = false }) true false
     ≡ record { side = sideOn s (ticksOf 1); feed = Nothing; one = false }
-unfolding sideClocked transmitterPulsed lineOf pick
+unfolding sideClocked transmitterPulsed echoTaken pick
 side-on s acr cts rxd h =
     rw (
       channel-passes (s .phases) (eqb (acr / 128) 1) (s .csr) (omega (arith, h)) (omega (arith, h)),
-      pick-all (λ (x : Feed). x ≡ Nothing) (s .enabled) Nothing Nothing refl refl,
+      hears-nothing,
     )
 
 pub front-on : (f : Front) → f .timer .ticks .0 < 16 → 0 < frontRoom f

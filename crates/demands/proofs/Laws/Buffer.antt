@@ -20,7 +20,7 @@ use Rattle.receiver.specs.Receiver.{fedOf}
 use Rattle.receiver.specs.Sound.{receiverInRange}
 use Rattle.receiver.specs.Delivery.{given}
 use Rattle.receiver.proofs.Delivery.{given-held, read-held}
-use Rattle.transmitter.specs.Status as Transmitters
+use Rattle.front_modes.specs.Modes.{senderShown, modeSet}
 use Rattle.chip_soundness.specs.Soundness.{receiverSound}
 use Rattle.front_side.specs.Side.{modeNotModelled, modeWritten}
 use Rattle.chip_shown.specs.Shown.{statusRegister, blockErrors, shownOf}
@@ -38,6 +38,7 @@ use Rattle.chip_step.specs.Chip.{stepOf}
 use Rattle.chip_laws.specs.Alone.{handedAfter}
 use Rattle.chip_laws.specs.Reset.{resetAt}
 use Rattle.chip_laws.specs.Sound.{after}
+use Rattle.chip_laws.proofs.Alone.{alone}
 use Rattle.demands.specs.Chip.{Channel, registerOf, andThen, over, chipOf, statusBit}
 use Rattle.demands.specs.Chip.Channel.{A, B}
 use Rattle.demands.specs.Clocks.{frontThen, sideOf}
@@ -52,7 +53,7 @@ use Rattle.demands.proofs.Laws.Feeds.{handsTo, hands}
 pub status-told : (levels : ℕ) (ch : Channel) (es : List Event)
     → chipOf stepOf levels es (Read (registerOf ch 1)) .byte
     ≡ statusRegister (statusOf (receiverAt ch (runAt levels es)) (blockErrors (sideOf ch (runAt levels es .front))))
-    (Transmitters.statusOf (sideOf ch (runAt levels es .front) .transmitter))
+    (senderShown (sideOf ch (runAt levels es .front)))
 unfolding chipOf shownOf
 status-told levels ch es = status-byte ch (runAt levels es) (run-sound levels es)
 
@@ -67,18 +68,26 @@ receiver-stays : (ch : Channel) (d : Device) (e : Event) → isSoundOf d ≡ tru
     → ((r : Receiver) → fedOf r (handsTo ch (d .front) e) .receiver ≡ r) → receiverAt ch (stepOf d e .state) ≡ receiverAt ch d
 receiver-stays ch d e s k = step-receiver ch d e s ∙ rw (hands ch (d .front) e) (k (receiverAt ch d))
 
+-- "1 pointer to MR1": a write there is no mode change
+pointer-back : (ch : Channel) (d : Device) → isSoundOf d ≡ true → sideOf ch (stepOf d (Write (registerOf ch 2) 16) .state .front) .moved ≡ false
+unfolding handedAfter registerAbove15 forbiddenRead forbiddenCommand settingNotModelled writeNotModelled frontStepped registerWritten sideWritten sideCommanded pick
+pointer-back A d s = rw (alone .front d (Write 2 16) s) (and-false (d .front .a .moved))
+pointer-back B d s = rw (alone .front d (Write 10 16) s) (and-false (d .front .b .moved))
+
 -- so do the command and the write of MR1
 errors-receiver : (ch : Channel) (d : Device) → isSoundOf d ≡ true
     → receiverAt ch (after stepOf d (Write (registerOf ch 2) 16 ∷ Write (registerOf ch 0) 19 ∷ [])) ≡ receiverAt ch d
 unfolding after fedOf commandFeed receiverEffect receiverEnabling effectOf enablingOf pick
 errors-receiver A d s =
-    receiver-stays A (stepOf d (Write 2 16) .state) (Write 0 19) (step-sound d _ s) (λ r. refl) ∙ receiver-stays A d (Write 2 16) s (λ r. refl)
+    receiver-stays A (stepOf d (Write 2 16) .state) (Write 0 19) (step-sound d _ s) (λ r. rw (pointer-back A d s))
+    ∙ receiver-stays A d (Write 2 16) s (λ r. refl)
 errors-receiver B d s =
-    receiver-stays B (stepOf d (Write 10 16) .state) (Write 8 19) (step-sound d _ s) (λ r. refl) ∙ receiver-stays B d (Write 10 16) s (λ r. refl)
+    receiver-stays B (stepOf d (Write 10 16) .state) (Write 8 19) (step-sound d _ s) (λ r. rw (pointer-back B d s))
+    ∙ receiver-stays B d (Write 10 16) s (λ r. refl)
 
 -- and MR1 holds what was written, for the pointer was there
 errors-mode : (ch : Channel) (f : Front) → sideOf ch (frontThen (frontThen f (Write (registerOf ch 2) 16)) (Write (registerOf ch 0) 19)) .mr1 ≡ 19
-unfolding handedAfter registerAbove15 forbiddenRead forbiddenCommand settingNotModelled writeNotModelled frontStepped registerWritten sideWritten sideCommanded modeNotModelled modeWritten pick
+unfolding handedAfter registerAbove15 forbiddenRead forbiddenCommand settingNotModelled writeNotModelled frontStepped registerWritten sideWritten sideCommanded modeNotModelled modeSet modeWritten pick
 errors-mode A f = rw (and-false (f .a .moved))
 errors-mode B f = rw (and-false (f .b .moved))
 
@@ -86,7 +95,7 @@ errors-mode B f = rw (and-false (f .b .moved))
 marks-told : (levels : ℕ) (ch : Channel) (es : List Event)
     → chipOf stepOf levels (characterErrors ch es) (Read (registerOf ch 1)) .byte
     ≡ statusRegister (statusOf (receiverAt ch (runAt levels es)) false)
-    (Transmitters.statusOf (sideOf ch (runAt levels (characterErrors ch es) .front) .transmitter))
+    (senderShown (sideOf ch (runAt levels (characterErrors ch es) .front)))
 unfolding over
 marks-told levels ch es = status-told levels ch (characterErrors ch es) ∙ rw (receiver, mode)
   where

@@ -17,10 +17,10 @@ use Rattle.front.specs.declared.front.Front.{Front}
 use Rattle.events.specs.declared.events.Event.{Event}
 use Rattle.events.specs.declared.events.Event.the-variants.{ChipReset, Read, Write, Acknowledge, Pins, Tick}
 use Rattle.demands.specs.Chip.{Channel, registerOf}
+use Rattle.demands.specs.Told.{commands}
 use Rattle.demands.specs.Clocks.{sideOf}
-use Rattle.demands.specs.Delivery.{commands}
 use Rattle.demands.specs.Received.{commandOf, isChipReset}
-use Rattle.demands.proofs.Laws.Feeds.{handsTo}
+use Rattle.demands.proofs.Laws.Feeds.{handsTo, pulse-all, write-all}
 
 -- ---- the feeds that clear ----
 
@@ -61,10 +61,10 @@ pub reset-handed : (ch : Channel) (f : Front) (e : Event) → isReset (handsTo c
 unfolding commandFeed
 reset-handed ch f ChipReset = refl
 reset-handed ch f (Read n) = pick-all (λ (x : Feed). isReset x ≡ false) (eqb n (registerOf ch 3)) _ _ refl refl
-reset-handed ch f (Write n byte) = pick-all (λ (x : Feed). isReset x ≡ false) (commands ch n byte) _ _ refl refl
+reset-handed ch f (Write n byte) = write-all (λ (x : Feed). isReset x ≡ false) ch f n byte refl refl refl
 reset-handed ch f Acknowledge = refl
-reset-handed ch f (Pins levels) = pick-all (λ (x : Feed). isReset x ≡ false) _ _ _ refl refl
-reset-handed ch f Tick = pick-all (λ (x : Feed). isReset x ≡ false) _ _ _ refl refl
+reset-handed ch f (Pins levels) = pulse-all (λ (x : Feed). isReset x ≡ false) refl (λ level g. refl) _ _ _ _
+reset-handed ch f Tick = pulse-all (λ (x : Feed). isReset x ≡ false) refl (λ level g. refl) _ _ _ _
 
 -- the bits 6-4 that clear
 errors-bits : (bits : ℕ) → clearsErrors (receiverEffect bits) ≡ eqb bits 4
@@ -90,23 +90,24 @@ break-bits bits = go (eqb bits 2) (eqb bits 4) (eqb bits 5) refl refl refl
     go false false false e d c = refl
 
 -- so of any event
-cleared-picked : (p : Effect → Bool) (t : Bool) (s : Side) (byte : ℕ)
-    → clearedBy p (pick t (commandFeed s byte) Feeds.Nothing) ≡ t && p (receiverEffect (byte / 16 % 8))
+cleared-picked : (p : Effect → Bool) (t : Bool) (s : Side) (byte : ℕ) (x : Feed) → clearedBy p x ≡ false
+    → clearedBy p (pick t (commandFeed s byte) x) ≡ t && p (receiverEffect (byte / 16 % 8))
 unfolding commandFeed pick
-cleared-picked p true s byte = refl
-cleared-picked p false s byte = refl
+cleared-picked p true s byte x e = refl
+cleared-picked p false s byte x e = e
 
-cleared-handed : (p : Effect → Bool) (k : ℕ) → ((bits : ℕ) → p (receiverEffect bits) ≡ eqb bits k) → (ch : Channel) (f : Front) (e : Event)
+cleared-handed : (p : Effect → Bool) (k : ℕ) → p NoEffect ≡ false → ((bits : ℕ) → p (receiverEffect bits) ≡ eqb bits k) → (ch : Channel) (f : Front) (e : Event)
     → clearedBy p (handsTo ch f e) ≡ isChipReset e || commandOf ch k e
-cleared-handed p k h ch f ChipReset = refl
-cleared-handed p k h ch f (Read n) = pick-all (λ (x : Feed). clearedBy p x ≡ false) (eqb n (registerOf ch 3)) _ _ refl refl
-cleared-handed p k h ch f (Write n byte) = cleared-picked p (commands ch n byte) (sideOf ch f) byte ∙ rw (h (byte / 16 % 8))
-cleared-handed p k h ch f Acknowledge = refl
-cleared-handed p k h ch f (Pins levels) = pick-all (λ (x : Feed). clearedBy p x ≡ false) _ _ _ refl refl
-cleared-handed p k h ch f Tick = pick-all (λ (x : Feed). clearedBy p x ≡ false) _ _ _ refl refl
+cleared-handed p k none h ch f ChipReset = refl
+cleared-handed p k none h ch f (Read n) = pick-all (λ (x : Feed). clearedBy p x ≡ false) (eqb n (registerOf ch 3)) _ _ refl refl
+cleared-handed p k none h ch f (Write n byte) =
+    cleared-picked p (commands ch n byte) (sideOf ch f) byte _ (pick-all (λ (x : Feed). clearedBy p x ≡ false) _ _ _ none refl) ∙ rw (h (byte / 16 % 8))
+cleared-handed p k none h ch f Acknowledge = refl
+cleared-handed p k none h ch f (Pins levels) = pulse-all (λ (x : Feed). clearedBy p x ≡ false) refl (λ level g. refl) _ _ _ _
+cleared-handed p k none h ch f Tick = pulse-all (λ (x : Feed). clearedBy p x ≡ false) refl (λ level g. refl) _ _ _ _
 
 pub sums-handed : (ch : Channel) (f : Front) (e : Event) → clearsSums (handsTo ch f e) ≡ isChipReset e || commandOf ch 4 e
-sums-handed ch f e = cleared-handed clearsErrors 4 errors-bits ch f e
+sums-handed ch f e = cleared-handed clearsErrors 4 refl errors-bits ch f e
 
 pub change-handed : (ch : Channel) (f : Front) (e : Event) → clearsChange (handsTo ch f e) ≡ isChipReset e || commandOf ch 5 e
-change-handed ch f e = cleared-handed clearsBreak 5 break-bits ch f e
+change-handed ch f e = cleared-handed clearsBreak 5 refl break-bits ch f e

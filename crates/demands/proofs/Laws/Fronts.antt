@@ -13,8 +13,9 @@ use Rattle.inputs.specs.Inputs.{movedOf, changesCleared, pinsOfA, pinsOfB}
 use Rattle.outputs.specs.declared.outputs.Outputs.{Outputs}
 use Rattle.outputs.specs.Outputs.{bitsSet, bitsReset, outputsChosen, opcrNotModelled}
 use Rattle.front_side.specs.declared.side.Side.{Side}
-use Rattle.front_side.specs.Side.{freshSide, withTransmitter, withClocks, modeNotModelled, pointedAt, modeWritten, csrWritten, setChanged, bufferWritten}
-use Rattle.front_side_clocks.specs.Clocking.{transmitterPulsed, sideClocked}
+use Rattle.front_side.specs.Side.{freshSide, withTransmitter, withEcho, withClocks, modeNotModelled, pointedAt, csrWritten, setChanged, bufferWritten}
+use Rattle.front_modes.specs.Modes.{modeSet}
+use Rattle.front_side_clocks.specs.Clocking.{transmitterPulsed, echoTaken, sideClocked}
 use Rattle.front_commands.specs.Commands.{sideCommanded}
 use Rattle.timer_state.specs.Counting.{withPreload, modeOf}
 use Rattle.timer.specs.Timer.{startedOf, stoppedOf, modeChanged, transmittedBy}
@@ -40,7 +41,7 @@ use Rattle.demands.specs.Clocks.{frontThen, sideOf, clocksOf}
 abbrev pub sideWritten : Channel → Front → ℕ → ℕ → Side
 sideWritten ch f n byte =
     let s : Side = sideOf ch f in
-    pick (eqb n (registerOf ch 0)) (pick (modeNotModelled s byte) s (modeWritten s byte))
+    pick (eqb n (registerOf ch 0)) (pick (modeNotModelled s byte) s (modeSet s byte))
     (pick (eqb n (registerOf ch 1)) (csrWritten s byte)
     (pick (eqb n (registerOf ch 2)) (pick (commandForbidden byte) s (sideCommanded s byte))
     (pick (eqb n (registerOf ch 3)) (bufferWritten s byte)
@@ -191,7 +192,8 @@ sideClockedBy ch f before tick =
     let s : Side = sideOf ch f in
     let c : Clocked = clocksOf ch f before tick in
     let pins : ChannelPins = ofChannel ch (pinsOfA before (f .inputs .levels)) (pinsOfB before (f .inputs .levels)) in
-    withClocks (withTransmitter s (transmitterPulsed s (c .transmitter) (pins .cts))) (s .csr) (c .phases)
+    withClocks (withEcho (withTransmitter s (transmitterPulsed s (c .transmitter) (pins .cts))) (echoTaken s (c .receiver) (pins .rxd)))
+    (s .csr) (c .phases)
 
 abbrev pub frontClocked : Front → ℕ → Bool → Front
 frontClocked f before tick =

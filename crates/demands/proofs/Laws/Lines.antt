@@ -1,8 +1,8 @@
 -- What a sampler hears of an event, and the fates that the event brings, are those of what the front, run alone, hands to the channel's receiver.
 -- So the ledger of some events is the ledger of what is handed on. Assumes nothing.
 use Prim.Native.Nat.{ℕ, _/_, _%_}
-use mathlib.Core.Path.{_≡_, refl, _∙_}
-use mathlib.Core.Bool.{Bool, true, false, not, _&&_, or-false}
+use mathlib.Core.Path.{_≡_, refl, sym, ap, _∙_}
+use mathlib.Core.Bool.{Bool, true, false, not, _&&_, _||_, or-false}
 use mathlib.Core.List.{List, [], _∷_, _++_}
 use native.Mathlib.Omega.{arith}
 use lib.Dec.{eqb}
@@ -23,20 +23,26 @@ use Rattle.feed.specs.declared.feed.Feed.the-variants as Feeds
 use Rattle.receiver.specs.Delivery as Receivers
 use Rattle.receiver.specs.Delivery.{Ledger, meets, dropAll, clears, overruns, pulseWritten, effectLines, linesOf, linesOver, effectWritten, enablingWritten, written}
 use Rattle.receiver.specs.Delivery.Fate.{WasRead}
+use Rattle.clocks.specs.Pulses.Side.{receives, transmits}
 use Rattle.front_commands.specs.Commands.{receiverEffect, receiverEnabling, commandFeed}
 use Rattle.front_side.specs.declared.side.Side.{Side}
+use Rattle.front_modes.specs.Modes.{localMode, remoteMode}
+use Rattle.front_side_clocks.specs.Clocking.{pulseOf, lineOf}
 use Rattle.front.specs.declared.front.Front.{Front}
 use Rattle.events.specs.declared.events.Event.{Event}
 use Rattle.events.specs.declared.events.Event.the-variants.{ChipReset, Read, Write, Acknowledge, Pins, Tick}
 use Rattle.front.specs.Front.{frontAt}
 use Rattle.chip_laws.specs.Alone.{handedAfter}
 use Rattle.demands.specs.Chip.{Channel, registerOf, andThen}
-use Rattle.demands.specs.Told.{levelsThen}
-use Rattle.demands.specs.Clocks.{frontThen, frontAfter, sideOf}
-use Rattle.demands.specs.Delivery.{commands, resetLines, enablingLines, commandLines, linesAt, linesFrom, commandFate, fateOf, heardAll, ledgerFrom}
+use Rattle.demands.specs.Told.{levelsThen, commands, programmed}
+use Rattle.demands.specs.Clocks.{frontThen, frontAfter, sideOf, pulsedAfter}
+use Rattle.demands.specs.Pulses.{clocks}
+use Rattle.demands.specs.Sending.{senderAfter}
+use Rattle.demands.specs.Delivery.{heardAt, heardBy, resetLines, enablingLines, commandLines, linesAt, linesFrom, commandFate, fateOf, heardAll, ledgerFrom}
 use Rattle.demands.proofs.Laws.Run.{feedOf, feedsFrom}
-use Rattle.demands.proofs.Laws.Told.{told, levels-told, over-then}
-use Rattle.demands.proofs.Laws.Feeds.{handsTo, hands}
+use Rattle.demands.proofs.Laws.Told.{told, levels-told, over-then, pick-with, programmedOf, programmed-stays}
+use Rattle.demands.proofs.Laws.Senders.{sender-told}
+use Rattle.demands.proofs.Laws.Feeds.{handsTo, hands, pulse-all}
 
 -- ---- a command ----
 
@@ -67,19 +73,52 @@ command-heard s byte = rw (effect-heard (byte / 16 % 8), enabling-heard (s .enab
 
 -- ---- the lines of an event ----
 
-lines-picked : (t : Bool) (x : Feed) → pick t (linesOf x) [] ≡ linesOf (pick t x Feeds.Nothing)
+lines-picked : (t : Bool) (x y : Feed) → pick t (linesOf x) (linesOf y) ≡ linesOf (pick t x y)
 unfolding pick
-lines-picked true x = refl
-lines-picked false x = refl
+lines-picked true x y = refl
+lines-picked false x y = refl
+
+-- what a side lets its receiver hear
+line-heard : (s : Side) (receiver transmitter rxd : Bool)
+    → heardBy (programmedOf s) receiver transmitter (s .transmitter .txd) rxd ≡ linesOf (lineOf s receiver transmitter rxd)
+unfolding lineOf pulseOf pick
+line-heard s receiver transmitter rxd = go (not (s .enabled) || remoteMode (s .mr2)) (localMode (s .mr2)) receiver transmitter
+  where
+    go : (off local r t : Bool)
+        → pick off []
+        (pick local (heardAt (s .mr1) (s .csr % 16) t (s .transmitter .txd)) (heardAt (s .mr1) (s .csr / 16) r rxd))
+        ≡ linesOf
+        (pick off Feeds.Nothing
+        (pick local (pulseOf (s .mr1) (s .csr % 16) t (s .transmitter .txd)) (pulseOf (s .mr1) (s .csr / 16) r rxd)))
+    go true local r t = refl
+    go false true r true = refl
+    go false true r false = refl
+    go false false true t = refl
+    go false false false t = refl
+
+-- a tick, or a pin event: the side as it stands after it
+pulse-heard : (ch : Channel) (levels : ℕ) (es : List Event) (e : Event) (rxd : Bool) → clocks e ≡ true
+    → heardBy (programmed ch es) (pulsedAfter receives ch levels es e) (pulsedAfter transmits ch levels es e) (senderAfter levels ch (andThen es e) .txd) rxd
+    ≡ linesOf
+    (lineOf (sideOf ch (frontThen (frontAfter levels es) e)) (pulsedAfter receives ch levels es e) (pulsedAfter transmits ch levels es e) rxd)
+pulse-heard ch levels es e rxd k =
+    rw (
+      ← programmed-stays ch es e k,
+      told ch levels (andThen es e),
+      sender-told levels ch (andThen es e),
+      ← over-then frontThen (frontAt levels) es e,
+    )
+    (line-heard (sideOf ch (frontAfter levels (andThen es e))) _ _ rxd)
 
 pub lines-handed : (ch : Channel) (levels : ℕ) (es : List Event) (e : Event) → linesAt ch levels es e ≡ linesOf (handsTo ch (frontAfter levels es) e)
 unfolding linesAt
 lines-handed ch levels es ChipReset = refl
 lines-handed ch levels es (Read n) = pick-all (λ (x : Feed). [] ≡ linesOf x) (eqb n (registerOf ch 3)) _ _ refl refl
-lines-handed ch levels es (Write n byte) = rw (told ch levels es, command-heard) (lines-picked (commands ch n byte) _)
+lines-handed ch levels es (Write n byte) =
+    rw (told ch levels es, command-heard, ← lines-picked (commands ch n byte)) (ap (pick (commands ch n byte) _) (lines-picked _ (Feeds.Command NoEffect Enables) Feeds.Nothing))
 lines-handed ch levels es Acknowledge = refl
-lines-handed ch levels es (Pins x) = rw (told ch levels es, over-then levelsThen levels es (Pins x)) (lines-picked _ _)
-lines-handed ch levels es Tick = rw (told ch levels es, over-then levelsThen levels es Tick, levels-told levels es) (lines-picked _ _)
+lines-handed ch levels es (Pins x) = rw (over-then levelsThen levels es (Pins x)) (pulse-heard ch levels es (Pins x) _ refl)
+lines-handed ch levels es Tick = rw (over-then levelsThen levels es Tick, levels-told levels es) (pulse-heard ch levels es Tick _ refl)
 
 -- ---- the fates of an event ----
 
@@ -117,10 +156,12 @@ fate-handed : (ch : Channel) (l : Ledger) (f : Front) (e : Event) → fateOf ch 
 unfolding fateOf commandFeed
 fate-handed ch l f ChipReset = refl
 fate-handed ch l f (Read n) = fate-picked l (eqb n (registerOf ch 3)) Feeds.Read
-fate-handed ch l f (Write n byte) = rw (command-fate l (byte / 16 % 8)) (fate-picked l (commands ch n byte) (commandFeed (sideOf ch f) byte))
+fate-handed ch l f (Write n byte) =
+    rw (command-fate l (byte / 16 % 8))
+    (sym (pick-with (λ (x : Feed). fateBy l x) (commands ch n byte) refl (pick-all (λ (y : Feed). fateBy l y ≡ l) _ _ _ refl refl)))
 fate-handed ch l f Acknowledge = refl
-fate-handed ch l f (Pins x) = pick-all (λ (y : Feed). l ≡ fateBy l y) _ _ _ refl refl
-fate-handed ch l f Tick = pick-all (λ (y : Feed). l ≡ fateBy l y) _ _ _ refl refl
+fate-handed ch l f (Pins x) = pulse-all (λ (y : Feed). l ≡ fateBy l y) refl (λ level g. refl) _ _ _ _
+fate-handed ch l f Tick = pulse-all (λ (y : Feed). l ≡ fateBy l y) refl (λ level g. refl) _ _ _ _
 
 -- ---- what is heard is written ----
 

@@ -10,7 +10,7 @@ use Rattle.format.specs.Pick.{pick}
 use Rattle.receiver_status.specs.declared.status.Status.{Status}
 use Rattle.receiver_status.specs.Status.{statusOf}
 use Rattle.transmitter.specs.declared.status.TransmitterStatus.{TransmitterStatus}
-use Rattle.transmitter.specs.Status as Transmitters
+use Rattle.front_modes.specs.Modes.{senderShown}
 use Rattle.bytes.specs.Bytes.{hasBit}
 use Rattle.chip_shown.specs.declared.shown.Shown.{Shown}
 use Rattle.chip_shown.specs.Shown.{blockErrors, shownOf, channelShown}
@@ -46,7 +46,7 @@ abbrev pub receiverOn : Channel → ℕ → List Event → Status
 receiverOn ch levels es = statusOf (receiverAt ch (runAt levels es)) (blockErrors (sideOf ch (frontAfter levels es)))
 
 abbrev pub transmitterOn : Channel → ℕ → List Event → TransmitterStatus
-transmitterOn ch levels es = Transmitters.statusOf (sideOf ch (frontAfter levels es) .transmitter)
+transmitterOn ch levels es = senderShown (sideOf ch (frontAfter levels es))
 
 -- ---- the lines ----
 

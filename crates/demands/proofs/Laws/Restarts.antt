@@ -22,6 +22,7 @@ use Rattle.clocks.specs.Pulses.{Side, codeOf}
 use Rattle.clocks.specs.Pulses.Side.{receives, transmits}
 use Rattle.clocks.proofs.Pulses.{phaseOf, sideIn}
 use Rattle.front_side.specs.declared.side.Side as Sides
+use Rattle.front_modes.specs.Modes.{modeSet}
 use Rattle.front_side.specs.Side.{freshSide, modeWritten, csrWritten, setChanged, bufferWritten}
 use Rattle.front_commands.specs.Commands.{sideCommanded}
 use Rattle.front.specs.declared.front.Front.{Front}
@@ -103,9 +104,9 @@ pick-other P t x y e q = rw e q
 -- one that is not to the channel's CSR or to ACR
 pub written-same : (ch : Channel) (f : Front) (n byte : ℕ) → eqb n (registerOf ch 1) ≡ false → eqb n 4 ≡ false
     → SameClocks (sideOf ch f) (sideWritten ch f n byte)
-unfolding modeWritten sideCommanded bufferWritten
+unfolding modeSet modeWritten sideCommanded bufferWritten
 written-same ch f n byte h k =
-    pick-all P _ _ _ (pick-all P _ _ _ (refl, refl) (pick-all P _ _ _ (refl, refl) (refl, refl)))
+    pick-all P _ _ _ (pick-all P _ _ _ (refl, refl) (pick-all P _ _ _ written written))
     (pick-other P _ _ _ h
     (pick-all P _ _ _ (pick-all P _ _ _ (refl, refl) (refl, refl))
     (pick-all P _ _ _ (refl, refl)
@@ -114,6 +115,9 @@ written-same ch f n byte h k =
   where
     P : Sides.Side → Type 0
     P s = SameClocks (sideOf ch f) s
+
+    written : P (modeWritten (sideOf ch f) byte)
+    written = pick-all P _ _ _ (refl, refl) (refl, refl)
 
 -- one to its CSR
 pub csr-restarts : (ch : Channel) (f : Front) (n byte : ℕ) → eqb n (registerOf ch 1) ≡ true → sideWritten ch f n byte .phases ≡ restarted

@@ -1,13 +1,14 @@
 -- What an event brings to a channel's transmitter is what the front makes of it: so the transmitter run alone over the inputs that some events bring is
--- the front's, which the lines and the status show; and TxD at its pulses, and their number, are those of its inputs. Assumes nothing.
+-- the front's; and its levels at its pulses, and their number, are those of its inputs. Assumes nothing.
 use Prim.Native.Nat.{ℕ, _/_, _%_}
 use mathlib.Core.Path.{_≡_, refl, sym, ap, _∙_}
-use mathlib.Core.Bool.{Bool, true, false, not, true≢false, and-eq-true-iff}
+use mathlib.Core.Bool.{Bool, true, false, not, _&&_, true≢false, and-true, and-eq-true-iff}
 use mathlib.Core.List.{List, [], _∷_, _++_, append-assoc, append-nil}
 use lib.Dec.{eqb}
 use lib.ListN.{length}
 use borrow.Author.Tests.{eqb-true}
 use Rattle.format.specs.Digits.{bit}
+use Rattle.format.specs.Format.{mr2NotModelled}
 use Rattle.format.specs.Pick.{pick}
 use Rattle.format.proofs.Laws.Pick.{pick-all, pick-known}
 use Rattle.transmitter_state.specs.declared.sending.Standing.{Standing}
@@ -21,6 +22,7 @@ use Rattle.clocks.specs.Pulses.Side.{transmits}
 use Rattle.inputs.specs.Inputs.{movedOf, pinsOfA, pinsOfB}
 use Rattle.front_side.specs.declared.side.Side.{Side}
 use Rattle.front_side.specs.Side.{freshSide, modeNotModelled, modeWritten, csrWritten, setChanged, bufferWritten}
+use Rattle.front_modes.specs.Modes.{changesMode, modeSet}
 use Rattle.front_side_clocks.specs.Clocking.{transmitterPulsed}
 use Rattle.front_commands.specs.Commands.{transmitterEffect, transmitterEnabling, sideCommanded}
 use Rattle.events.specs.Command.{commandForbidden}
@@ -28,18 +30,14 @@ use Rattle.front.specs.declared.front.Front.{Front}
 use Rattle.front.specs.Front.{frontAt}
 use Rattle.events.specs.declared.events.Event.{Event}
 use Rattle.events.specs.declared.events.Event.the-variants.{ChipReset, Read, Write, Acknowledge, Pins, Tick}
-use Rattle.chip_answers.specs.Answers.{linesOf}
-use Rattle.chip_step.specs.Chip.{stepOf}
-use Rattle.demands.specs.Chip.{Channel, chipOf, registerOf, andThen, over, eachOf}
+use Rattle.demands.specs.Chip.{Channel, registerOf, andThen, over}
 use Rattle.demands.specs.Chip.Channel.{A, B}
-use Rattle.demands.specs.Told.{levelsThen}
+use Rattle.demands.specs.Told.{levelsThen, commands, programmed, modeBits, inEcho, modeChanges}
 use Rattle.demands.specs.Clocks.{frontThen, frontAfter, sideOf, clocksOf, pulsedBy, pulsedAfter}
-use Rattle.demands.specs.Delivery.{commands}
-use Rattle.demands.specs.Sending.{standing, effectInputs, enablingInputs, inputsAt, inputsFrom, senderAfter, txdAfter, keepsSending, pulsesFrom, sentFrom}
-use Rattle.demands.proofs.Laws.Run.{run-front}
-use Rattle.demands.proofs.Laws.Looks.{lines-after}
+use Rattle.demands.specs.Sending.{standing, effectInputs, enablingInputs, inputsAt, inputsFrom, senderAfter, keepsSending, keepsFrom, pulsesFrom}
 use Rattle.demands.proofs.Laws.Fronts.{sideWritten, sideNext, side-next}
-use Rattle.demands.proofs.Laws.Told.{told, levels-told, over-then}
+use Rattle.demands.proofs.Laws.Told.{told, levels-told, over-then, pick-with, programmedOf}
+use Rattle.demands.proofs.Laws.Modes.{echo-told, changes-told, mode-stays}
 use Rattle.demands.proofs.Laws.Frames.{after-append, pulses-append, line-append, keeps-append, line-length}
 
 -- ---- a write ----
@@ -82,17 +80,27 @@ command-taken s byte = go (commandForbidden byte)
         sym (after-append (s .transmitter) (effectInputs (byte / 16 % 8)) (enablingInputs (byte / 4 % 4))
         ∙ rw (effect-taken (s .transmitter) (byte / 16 % 8)) (enabling-taken _ (byte / 4 % 4)))
 
-mode-kept : (s : Side) (byte : ℕ) → pick (modeNotModelled s byte) s (modeWritten s byte) .transmitter ≡ s .transmitter
-unfolding modeWritten
-mode-kept s byte = pick-all Same _ _ _ refl (pick-all Same _ _ _ refl refl)
-  where
-    Same : Side → Type 0
-    Same x = x .transmitter ≡ s .transmitter
+-- a write of the mode registers is nothing to it, but for a mode change
+set-taken : (s : Side) (byte : ℕ) → modeSet s byte .transmitter ≡ pick (changesMode s byte) (afterInput (s .transmitter) Inputs.ModeChange) (s .transmitter)
+unfolding modeSet modeWritten
+set-taken s byte =
+    pick-with (λ (x : Side). x .transmitter) (changesMode s byte) refl
+    (pick-all (λ (x : Side). x .transmitter ≡ s .transmitter) (s .moved) _ _ refl refl)
 
-written-next : (levels : ℕ) (ch : Channel) (es : List Event) (f : Front) (n byte : ℕ)
+mode-taken : (s : Side) (byte : ℕ)
+    → pick (modeNotModelled s byte) s (modeSet s byte) .transmitter
+    ≡ after afterInput (s .transmitter)
+    (pick (s .moved && (not (mr2NotModelled byte) && not (eqb (byte / 64 % 4) (modeBits (programmedOf s))))) (Inputs.ModeChange ∷ []) [])
+unfolding after
+mode-taken s byte =
+    pick-with (λ (x : Side). x .transmitter) (modeNotModelled s byte) refl (set-taken s byte)
+    ∙ changes-told s byte (afterInput (s .transmitter) Inputs.ModeChange) (s .transmitter)
+    ∙ sym (pick-with (after afterInput (s .transmitter)) _ refl refl)
+
+written-next : (levels : ℕ) (ch : Channel) (es : List Event) (f : Front) (n byte : ℕ) → programmed ch es ≡ programmedOf (sideOf ch f)
     → sideWritten ch f n byte .transmitter ≡ after afterInput (sideOf ch f .transmitter) (inputsAt levels ch es (Write n byte))
 unfolding inputsAt after csrWritten bufferWritten setChanged pick
-written-next levels ch es f n byte = buffer (eqb n (registerOf ch 3)) refl
+written-next levels ch es f n byte p = buffer (eqb n (registerOf ch 3)) refl
   where
     Taken : Channel → ℕ → Type 0
     Taken ch n = sideWritten ch f n byte .transmitter ≡ after afterInput (sideOf ch f .transmitter) (inputsAt levels ch es (Write n byte))
@@ -108,12 +116,18 @@ written-next levels ch es f n byte = buffer (eqb n (registerOf ch 3)) refl
     at-command A = command-taken (f .a) byte
     at-command B = command-taken (f .b) byte
 
+    mode : (ch : Channel) → programmed ch es ≡ programmedOf (sideOf ch f) → Taken ch (registerOf ch 0)
+    mode A p = mode-taken (f .a) byte ∙ rw p
+    mode B p = mode-taken (f .b) byte ∙ rw p
+
+    other : (b : Bool) → eqb n (registerOf ch 0) ≡ b → eqb n (registerOf ch 2) ≡ false → eqb n (registerOf ch 3) ≡ false → Taken ch n
+    other true e g h = rw (eqb-true n (registerOf ch 0) e) (mode ch p)
+    other false e g h =
+        rw (e, g, h) (pick-all Same (eqb n (registerOf ch 1)) _ _ refl (pick-all Same (eqb n 4) _ _ refl refl))
+
     command : (b : Bool) → eqb n (registerOf ch 2) ≡ b → eqb n (registerOf ch 3) ≡ false → Taken ch n
     command true e h = rw (eqb-true n (registerOf ch 2) e) (at-command ch)
-    command false e h =
-        rw (e, h)
-        (pick-all Same (eqb n (registerOf ch 0)) _ _ (mode-kept (sideOf ch f) byte)
-        (pick-all Same (eqb n (registerOf ch 1)) _ _ refl (pick-all Same (eqb n 4) _ _ refl refl)))
+    command false e h = other (eqb n (registerOf ch 0)) refl e h
 
     buffer : (b : Bool) → eqb n (registerOf ch 3) ≡ b → Taken ch n
     buffer true e = rw (eqb-true n (registerOf ch 3) e) (at-buffer ch)
@@ -139,17 +153,17 @@ sender-next levels ch es e = rw (over-then frontThen (frontAt levels) es e, side
     go : (ch : Channel) (e : Event) → sideNext ch f e .transmitter ≡ after afterInput (sideOf ch f .transmitter) (inputsAt levels ch es e)
     go ch ChipReset = refl
     go ch (Read n) = pick-all (λ (s : Side). s .transmitter ≡ sideOf ch f .transmitter) (eqb n (registerOf ch 0)) _ _ refl refl
-    go ch (Write n byte) = written-next levels ch es f n byte
+    go ch (Write n byte) = written-next levels ch es f n byte (told ch levels es)
     go ch Acknowledge = refl
     go A (Pins x) =
-        rw (told A levels es, over-then levelsThen levels es (Pins x)) (picks (λ (t : Transmitter). t) (after afterInput (f .a .transmitter)) _ refl refl)
+        rw (told A levels es, echo-told (f .a), over-then levelsThen levels es (Pins x)) (picks (λ (t : Transmitter). t) (after afterInput (f .a .transmitter)) _ refl refl)
     go B (Pins x) =
-        rw (told B levels es, over-then levelsThen levels es (Pins x)) (picks (λ (t : Transmitter). t) (after afterInput (f .b .transmitter)) _ refl refl)
+        rw (told B levels es, echo-told (f .b), over-then levelsThen levels es (Pins x)) (picks (λ (t : Transmitter). t) (after afterInput (f .b .transmitter)) _ refl refl)
     go A Tick =
-        rw (told A levels es, over-then levelsThen levels es Tick, levels-told levels es)
+        rw (told A levels es, echo-told (f .a), over-then levelsThen levels es Tick, levels-told levels es)
         (picks (λ (t : Transmitter). t) (after afterInput (f .a .transmitter)) _ refl refl)
     go B Tick =
-        rw (told B levels es, over-then levelsThen levels es Tick, levels-told levels es)
+        rw (told B levels es, echo-told (f .b), over-then levelsThen levels es Tick, levels-told levels es)
         (picks (λ (t : Transmitter). t) (after afterInput (f .b .transmitter)) _ refl refl)
 
 -- ---- a list of events ----
@@ -178,20 +192,16 @@ pub sender-then : (levels : ℕ) (ch : Channel) (es : List Event) (e : Event)
     → senderAfter levels ch (andThen es e) ≡ after afterInput (senderAfter levels ch es) (inputsAt levels ch es e)
 sender-then levels ch es e = rw (sender-told levels ch (andThen es e), sender-told levels ch es) (sender-next levels ch es e)
 
--- TxD, by the lines of an answer
-pub txd-shown : (levels : ℕ) (ch : Channel) (es : List Event) → txdAfter (chipOf stepOf) levels ch es ≡ senderAfter levels ch es .txd
-unfolding linesOf
-txd-shown levels A es = rw (lines-after levels es, run-front levels es, sender-told levels A es)
-txd-shown levels B es = rw (lines-after levels es, run-front levels es, sender-told levels B es)
-
 -- ---- pulses and resets among the inputs of one event ----
 
--- a write brings nothing, an accepted command or a byte
+-- a write brings nothing, an accepted command, a byte or a mode change
 written-all : (P : List Input → Type 0) (levels : ℕ) (ch : Channel) (es : List Event) (n byte : ℕ) → P []
     → (commands ch n byte ≡ true → P (effectInputs (byte / 16 % 8) ++ enablingInputs (byte / 4 % 4))) → P (Inputs.Write byte ∷ [])
+    → (modeChanges ch (programmed ch es) n byte ≡ true → P (Inputs.ModeChange ∷ []))
     → P (inputsAt levels ch es (Write n byte))
 unfolding inputsAt
-written-all P levels ch es n byte none command buffer = pick-all P _ _ _ buffer (pick-known P _ _ _ command none)
+written-all P levels ch es n byte none command buffer change =
+    pick-all P _ _ _ buffer (pick-known P _ _ _ command (pick-known P _ _ _ change none))
 
 -- a command is no pulse
 command-silent : (t : Transmitter) (byte : ℕ) → line afterInput t (effectInputs (byte / 16 % 8) ++ enablingInputs (byte / 4 % 4)) ≡ []
@@ -226,66 +236,59 @@ pulse-line t s true = refl
 pulse-line t s false = refl
 
 -- TxD at the event's pulse, if it brings one
-event-line : (levels : ℕ) (ch : Channel) (es : List Event) (e : Event) (t : Transmitter)
+pub event-line : (levels : ℕ) (ch : Channel) (es : List Event) (e : Event) (t : Transmitter)
     → line afterInput t (inputsAt levels ch es e)
-    ≡ pick (pulsedAfter transmits ch levels es e) (after afterInput t (inputsAt levels ch es e) .txd ∷ []) []
+    ≡ pick (pulsedAfter transmits ch levels es e && not (inEcho (programmed ch es))) (after afterInput t (inputsAt levels ch es e) .txd ∷ []) []
 unfolding inputsAt line pulsedBy pick
 event-line levels ch es ChipReset t = refl
 event-line levels ch es (Read n) t = refl
 event-line levels ch es (Write n byte) t =
-    written-all (λ (xs : List Input). line afterInput t xs ≡ []) levels ch es n byte refl (λ k. command-silent t byte) refl
+    written-all (λ (xs : List Input). line afterInput t xs ≡ []) levels ch es n byte refl (λ k. command-silent t byte) refl (λ k. refl)
 event-line levels ch es Acknowledge t = refl
-event-line levels ch es (Pins x) t = pulse-line t (standing levels ch es (Pins x)) (pulsedAfter transmits ch levels es (Pins x))
-event-line levels ch es Tick t = pulse-line t (standing levels ch es Tick) (pulsedAfter transmits ch levels es Tick)
+event-line levels ch es (Pins x) t =
+    pulse-line t (standing levels ch es (Pins x)) (pulsedAfter transmits ch levels es (Pins x) && not (inEcho (programmed ch es)))
+event-line levels ch es Tick t =
+    pulse-line t (standing levels ch es Tick) (pulsedAfter transmits ch levels es Tick && not (inEcho (programmed ch es)))
 
 event-pulses : (levels : ℕ) (ch : Channel) (es : List Event) (e : Event)
-    → pulsesIn (inputsAt levels ch es e) ≡ bit (pulsedAfter transmits ch levels es e)
+    → inEcho (programmed ch es) ≡ false → pulsesIn (inputsAt levels ch es e) ≡ bit (pulsedAfter transmits ch levels es e)
 unfolding pick
-event-pulses levels ch es e =
+event-pulses levels ch es e mode =
     sym (line-length freshTransmitter (inputsAt levels ch es e))
-    ∙ rw (event-line levels ch es e freshTransmitter) (go (pulsedAfter transmits ch levels es e) _)
+    ∙ rw (event-line levels ch es e freshTransmitter, mode, and-true) (go (pulsedAfter transmits ch levels es e) _)
   where
     go : (b : Bool) (x : Bool) → length (pick b (x ∷ []) []) ≡ bit b
     go true x = refl
     go false x = refl
 
-event-keeps : (levels : ℕ) (ch : Channel) (es : List Event) (e : Event) → keepsSending ch e ≡ true → noReset (inputsAt levels ch es e) ≡ true
+event-keeps : (levels : ℕ) (ch : Channel) (es : List Event) (e : Event) → keepsSending ch es e ≡ true → noReset (inputsAt levels ch es e) ≡ true
 unfolding inputsAt
 event-keeps levels ch es ChipReset h = absurd (true≢false (sym h))
 event-keeps levels ch es (Read n) h = refl
 event-keeps levels ch es (Write n byte) h =
-    written-all (λ (xs : List Input). noReset xs ≡ true) levels ch es n byte refl (λ k. command-keeps byte (rw k at h)) refl
+    let both = and-eq-true-iff (not (commands ch n byte && eqb (byte / 16 % 8) 3)) _ .0 h in
+    written-all (λ (xs : List Input). noReset xs ≡ true) levels ch es n byte refl (λ k. command-keeps byte (rw k at (both .0))) refl
+    (λ k. absurd (true≢false (sym (rw k at (both .1)))))
 event-keeps levels ch es Acknowledge h = refl
 event-keeps levels ch es (Pins x) h = pick-all (λ (xs : List Input). noReset xs ≡ true) _ _ _ refl refl
 event-keeps levels ch es Tick h = pick-all (λ (xs : List Input). noReset xs ≡ true) _ _ _ refl refl
 
 -- ---- and of a list of events ----
 
-pub keeps-from : (levels : ℕ) (ch : Channel) (before es : List Event) → eachOf (keepsSending ch) es ≡ true
+pub keeps-from : (levels : ℕ) (ch : Channel) (before es : List Event) → keepsFrom ch before es ≡ true
     → noReset (inputsFrom levels ch before es) ≡ true
-unfolding inputsFrom
+unfolding inputsFrom keepsFrom
 keeps-from levels ch before [] h = refl
 keeps-from levels ch before (e ∷ es) h =
-    let both = and-eq-true-iff (keepsSending ch e) _ .0 h in
+    let both = and-eq-true-iff (keepsSending ch before e) _ .0 h in
     keeps-append (inputsAt levels ch before e) _ (event-keeps levels ch before e (both .0)) (keeps-from levels ch (andThen before e) es (both .1))
 
-pub pulses-from : (levels : ℕ) (ch : Channel) (before es : List Event)
+-- in a mode that sends each pulse of the clock is one of its inputs
+pub pulses-from : (levels : ℕ) (ch : Channel) (before es : List Event) → inEcho (programmed ch before) ≡ false → keepsFrom ch before es ≡ true
     → pulsesFrom levels ch before es ≡ pulsesIn (inputsFrom levels ch before es)
-unfolding pulsesFrom inputsFrom pulsesIn
-pulses-from levels ch before [] = refl
-pulses-from levels ch before (e ∷ es) =
-    rw (pulses-append (inputsAt levels ch before e) _, event-pulses levels ch before e, pulses-from levels ch (andThen before e) es)
-
--- TxD at the pulses, by the transmitter
-pub line-from : (levels : ℕ) (ch : Channel) (before es : List Event)
-    → sentFrom (chipOf stepOf) levels ch before es ≡ line afterInput (senderAfter levels ch before) (inputsFrom levels ch before es)
-unfolding sentFrom inputsFrom line
-line-from levels ch before [] = refl
-line-from levels ch before (e ∷ es) =
-    rw (
-      line-append (senderAfter levels ch before) (inputsAt levels ch before e) _,
-      event-line levels ch before e (senderAfter levels ch before),
-      ← sender-then levels ch before e,
-      line-from levels ch (andThen before e) es,
-      txd-shown levels ch (andThen before e),
-    )
+unfolding pulsesFrom inputsFrom pulsesIn keepsFrom
+pulses-from levels ch before [] mode h = refl
+pulses-from levels ch before (e ∷ es) mode h =
+    let both = and-eq-true-iff (keepsSending ch before e) _ .0 h in
+    let next : inEcho (programmed ch (andThen before e)) ≡ false = rw (mode-stays ch before e (both .0)) mode in
+    rw (pulses-append (inputsAt levels ch before e) _, event-pulses levels ch before e mode, pulses-from levels ch (andThen before e) es next (both .1))

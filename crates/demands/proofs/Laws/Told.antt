@@ -1,8 +1,8 @@
 -- What the events tell is what the front run alone holds: a part of the front that one event changes as the telling says is told by any list
 -- of them; and each part here is, event by event. Assumes nothing.
 use Prim.Native.Nat.{ℕ}
-use mathlib.Core.Path.{_≡_, refl, ap}
-use mathlib.Core.Bool.{Bool, true, false, not, _&&_, _||_, and-true, and-false}
+use mathlib.Core.Path.{_≡_, refl, sym, ap, _∙_}
+use mathlib.Core.Bool.{Bool, true, false, not, _&&_, _||_, and-true, and-false, true≢false}
 use mathlib.Core.List.{List, [], _∷_, _++_}
 use lib.Dec.{eqb}
 use Rattle.format.specs.Format.{mr1NotModelled, mr2NotModelled}
@@ -18,6 +18,7 @@ use Rattle.inputs.specs.declared.inputs.Inputs.{Inputs}
 use Rattle.inputs.specs.Inputs.{movedOf}
 use Rattle.front_side.specs.declared.side.Side.{Side}
 use Rattle.front_side.specs.Side.{freshSide, modeNotModelled, modeWritten, csrWritten, setChanged, bufferWritten}
+use Rattle.front_modes.specs.Modes.{modeSet}
 use Rattle.front_side_clocks.specs.Clocking.{transmitterPulsed}
 use Rattle.front_commands.specs.Commands.{transmitterEffect, transmitterEnabling, enabledAfter, sideCommanded}
 use Rattle.events.specs.Command.{commandForbidden}
@@ -27,8 +28,9 @@ use Rattle.events.specs.declared.events.Event.{Event}
 use Rattle.events.specs.declared.events.Event.the-variants.{ChipReset, Read, Write, Acknowledge, Pins, Tick}
 use Rattle.demands.specs.Chip.{Channel, registerOf, andThen, over}
 use Rattle.demands.specs.Chip.Channel.{A, B}
-use Rattle.demands.specs.Told.{lastWritten, levelsThen, levelsAfter, Programmed, modeThen, named, commandThen, programmedThen, programmed}
+use Rattle.demands.specs.Told.{lastWritten, levelsThen, levelsAfter, Programmed, unprogrammed, modeThen, named, commandThen, programmedThen, programmed}
 use Rattle.demands.specs.Clocks.{frontThen, frontAfter, sideOf}
+use Rattle.demands.specs.Pulses.{clocks}
 use Rattle.demands.proofs.Laws.Fronts.{sideWritten, sideClockedBy, frontMoved, frontNext, front-next, sideNext, side-next}
 
 -- ---- over lists of events ----
@@ -157,9 +159,25 @@ abbrev pub programmedOf : Side → Programmed
 programmedOf s =
     record { mr1 = s .mr1; mr2 = s .mr2; moved = s .moved; csr = s .csr; receives = s .enabled; transmits = s .transmitter .enabled }
 
-mode-told : (s : Side) (byte : ℕ) → programmedOf (pick (modeNotModelled s byte) s (modeWritten s byte)) ≡ modeThen (programmedOf s) byte
+-- a mode change writes what any write of the mode registers does, and no enable
+set-told : (s : Side) (byte : ℕ) → programmedOf (modeSet s byte) ≡ programmedOf (modeWritten s byte)
+unfolding modeSet modeWritten afterInput
+set-told s byte = pick-all (λ (x : Side). programmedOf x ≡ programmedOf (modeWritten s byte)) _ _ _ (ap with-enable kept) refl
+  where
+    with-enable : Bool → Programmed
+    with-enable x =
+        let w : Side = modeWritten s byte in
+        record { mr1 = w .mr1; mr2 = w .mr2; moved = w .moved; csr = w .csr; receives = w .enabled; transmits = x }
+
+    kept : s .transmitter .enabled ≡ modeWritten s byte .transmitter .enabled
+    kept = pick-all (λ (x : Side). s .transmitter .enabled ≡ x .transmitter .enabled) (s .moved) _ _ refl refl
+
+mode-told : (s : Side) (byte : ℕ) → programmedOf (pick (modeNotModelled s byte) s (modeSet s byte)) ≡ modeThen (programmedOf s) byte
 unfolding modeNotModelled modeWritten pick
-mode-told s byte = go (s .moved) refl
+mode-told s byte =
+    pick-with programmedOf (modeNotModelled s byte) {x' = programmedOf s} {y' = programmedOf (modeWritten s byte)} refl (set-told s byte)
+    ∙ sym (pick-with programmedOf (modeNotModelled s byte) {x = s} {y = modeWritten s byte} refl refl)
+    ∙ go (s .moved) refl
   where
     go : (t : Bool) → s .moved ≡ t → programmedOf (pick (modeNotModelled s byte) s (modeWritten s byte)) ≡ modeThen (programmedOf s) byte
     go true e = rw (e, modeNotModelled, modeWritten) (pick-with programmedOf (mr2NotModelled byte) refl refl)
@@ -220,3 +238,16 @@ pub told : (ch : Channel) (levels : ℕ) (es : List Event) → programmed ch es 
 unfolding frontAt freshSide
 told A levels es = follows (λ f. programmedOf (sideOf A f)) (programmedThen A) (told-next A) (frontAt levels) es
 told B levels es = follows (λ f. programmedOf (sideOf B f)) (programmedThen B) (told-next B) (frontAt levels) es
+
+-- a tick or a pin event sets nothing
+pub programmed-stays : (ch : Channel) (es : List Event) (e : Event) → clocks e ≡ true → programmed ch (andThen es e) ≡ programmed ch es
+unfolding programmedThen
+programmed-stays ch es e k = over-then (programmedThen ch) unprogrammed es e ∙ go e k
+  where
+    go : (e : Event) → clocks e ≡ true → programmedThen ch (programmed ch es) e ≡ programmed ch es
+    go ChipReset k = absurd (true≢false (sym k))
+    go (Read n) k = absurd (true≢false (sym k))
+    go (Write n byte) k = absurd (true≢false (sym k))
+    go Acknowledge k = absurd (true≢false (sym k))
+    go (Pins x) k = refl
+    go Tick k = refl

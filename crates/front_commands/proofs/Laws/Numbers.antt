@@ -2,7 +2,7 @@
 -- statement takes what it speaks of, so that wrong commands are refuted by it. Assumes nothing.
 use Prim.Native.Nat.{ℕ, zero, suc, _/_, _%_, _<_}
 use mathlib.Core.Path.{_≡_, refl}
-use mathlib.Core.Bool.{Bool, true, false, not, _&&_}
+use mathlib.Core.Bool.{Bool, true, false, not, _&&_, _||_}
 use mathlib.Core.List.{List, [], _∷_}
 use native.Mathlib.Omega.{arith}
 use lib.Dec.{eqb}
@@ -18,7 +18,7 @@ use Rattle.transmitter.specs.declared.transmitter.Input.{Input}
 use Rattle.transmitter.specs.declared.transmitter.Input.the-variants.{Nothing, Enable, Disable, StartBreak, StopBreak, Reset}
 use Rattle.transmitter.specs.Transmitter.{afterInput}
 use Rattle.front_side.specs.declared.side.Side.{Side}
-use Rattle.front_commands.specs.Commands.{transmitterEffect, receiverEffect, transmitterEnabling, receiverEnabling, enabledThen, enabledAfter, sideCommanded, commandFeed}
+use Rattle.front_commands.specs.Commands.{transmitterEffect, receiverEffect, transmitterEnabling, receiverEnabling, enabledThen, enabledAfter, echoAfter, sideCommanded, commandFeed}
 
 -- ---- the tables ----
 
@@ -48,6 +48,10 @@ enablesTransmitter = Nothing ∷ Enable ∷ Disable ∷ Nothing ∷ []
 abbrev pub enablesReceiver : Bool → List Enabling
 enablesReceiver enabled = Stays ∷ pick enabled Stays Enables ∷ Disables ∷ Stays ∷ []
 
+-- order 2: a reset of either, and a disable of the receiver, raise the echoed level
+abbrev pub raisesEcho : List Bool
+raisesEcho = false ∷ false ∷ true ∷ true ∷ false ∷ false ∷ false ∷ false ∷ []
+
 -- ---- the statement ----
 
 -- "Command: bit 7 ignored; bits 6-4 first, then 3-2 (01 enable, 10 disable transmitter), then 1-0 (receiver)."
@@ -60,6 +64,10 @@ pub record Commands (side : Side → ℕ → Side) (feed : Side → ℕ → Feed
       → side s byte .enabled ≡ getD (e ∷ true ∷ false ∷ e ∷ []) (byte % 4) false
   pub receiver : (s : Side) (byte : ℕ) (e : Bool) → (s .enabled && getD leavesEnabled (byte / 16 % 8) false) ≡ e
       → feed s byte ≡ Command (getD toReceiver (byte / 16 % 8) Receivers.NoEffect) (getD (enablesReceiver e) (byte % 4) Stays)
+  -- order 2: "(high while disabled)", before the command and by it; "3 reset transmitter (.., TxD high)"
+  pub echo : (s : Side) (byte : ℕ)
+      → side s byte .echo
+      ≡ (not (s .enabled) || s .echo || getD raisesEcho (byte / 16 % 8) false || getD (false ∷ false ∷ true ∷ false ∷ []) (byte % 4) false)
   -- no other part
   pub modes : (s : Side) (byte : ℕ) → (side s byte .mr1 ≡ s .mr1) × (side s byte .mr2 ≡ s .mr2)
   pub clocks : (s : Side) (byte : ℕ) → (side s byte .csr ≡ s .csr) × (side s byte .phases ≡ s .phases)
@@ -106,6 +114,18 @@ enabled-at : (e : Bool) (k : ℕ) → k < 4 → enabledAfter e k ≡ getD (e ∷
 enabled-at true = four (λ (k : ℕ). enabledAfter true k ≡ getD (true ∷ true ∷ false ∷ true ∷ []) k false) refl refl refl refl
 enabled-at false = four (λ (k : ℕ). enabledAfter false k ≡ getD (false ∷ true ∷ false ∷ false ∷ []) k false) refl refl refl refl
 
+raised : (k : ℕ) → k < 8 → (eqb k 2 || eqb k 3) ≡ getD raisesEcho k false
+raised = eight (λ (k : ℕ). (eqb k 2 || eqb k 3) ≡ getD raisesEcho k false) refl refl refl refl refl refl refl refl
+
+disabled-at : (k : ℕ) → k < 4 → eqb k 2 ≡ getD (false ∷ false ∷ true ∷ false ∷ []) k false
+disabled-at = four (λ (k : ℕ). eqb k 2 ≡ getD (false ∷ false ∷ true ∷ false ∷ []) k false) refl refl refl refl
+
+echoes : (on x : Bool) (effect bits : ℕ) → effect < 8 → bits < 4
+    → echoAfter on x effect bits ≡ (not on || x || getD raisesEcho effect false || getD (false ∷ false ∷ true ∷ false ∷ []) bits false)
+echoes false x effect bits l m = refl
+echoes true true effect bits l m = refl
+echoes true false effect bits l m = rw (← raised effect l, ← disabled-at bits m)
+
 pub commands : Commands sideCommanded commandFeed
 unfolding sideCommanded commandFeed
 commands =
@@ -114,6 +134,7 @@ commands =
       pointer = λ s byte. points (s .moved) (byte / 16 % 8) (omega arith);
       enable = λ s byte e h. rw (stays (s .enabled) (byte / 16 % 8) (omega arith), h) (enabled-at e (byte % 4) (omega arith));
       receiver = λ s byte e h. rw (received (byte / 16 % 8) (omega arith), stays (s .enabled) (byte / 16 % 8) (omega arith), h, receiving e (byte % 4) (omega arith));
+      echo = λ s byte. echoes (s .enabled) (s .echo) (byte / 16 % 8) (byte % 4) (omega arith) (omega arith);
       modes = λ s byte. (refl, refl);
       clocks = λ s byte. (refl, refl);
     }

@@ -1,4 +1,4 @@
--- A command keeps a side in range: it is two inputs of the transmitter, a pointer and an enable. What it hands to the receiver carries no
+-- A command keeps a side in range: it is two inputs of the transmitter, a pointer, an enable and an echoed level. What it hands to the receiver carries no
 -- setting. Assumes nothing.
 use Prim.Native.Nat.{ℕ}
 use mathlib.Core.Path.{_≡_, refl}
@@ -10,7 +10,7 @@ use Rattle.front_side.proofs.Laws.Ranges.{SideWithin, input-within, pointed-wit
 
 pub commanded-within : (s : Side) (byte : ℕ) → SideWithin s → SideWithin (sideCommanded s byte)
 unfolding sideCommanded
-commanded-within s byte h = pointed-within _ _ _ (input-within _ _ (input-within s _ h))
+commanded-within s byte h = pointed-within _ _ _ _ (input-within _ _ (input-within s _ h))
 
 pub command-in-range : (s : Side) (byte : ℕ) → feedInRange (commandFeed s byte) ≡ true
 unfolding commandFeed

@@ -18,7 +18,7 @@ use Rattle.front_side.proofs.Laws.Ranges.{SideWithin, pointed-within}
 side-read-within : (s : Side) (n : ℕ) → SideWithin s → SideHandedWithin (sideRead s n)
 unfolding sideRead
 side-read-within s n h =
-    pick-all SideHandedWithin (eqb n 0) _ _ (record { side = pointed-within s true (s .enabled) h; feed = refl })
+    pick-all SideHandedWithin (eqb n 0) _ _ (record { side = pointed-within s true (s .enabled) (s .echo) h; feed = refl })
     (pick-all SideHandedWithin (eqb n 3) _ _ (record { side = h; feed = refl }) (record { side = h; feed = refl }))
 
 shared-read-within : (f : Front) (n : ℕ) → FrontWithin f → FrontWithin (sharedRead f n)

@@ -15,7 +15,7 @@ use Rattle.transmitter.specs.Sound.{transmitterInRange}
 use Rattle.transmitter.specs.Transmitter.{afterInput}
 use Rattle.transmitter.proofs.Laws.Ranges.{ranges-kept}
 use Rattle.front_side.specs.declared.side.Side.{Side}
-use Rattle.front_side.specs.Side.{freshSide, withModes, withEnabled, withTransmitter, modeNotModelled, modeWritten, csrWritten, setChanged, bufferWritten}
+use Rattle.front_side.specs.Side.{freshSide, withModes, withEnabled, withEcho, withTransmitter, modeNotModelled, modeWritten, csrWritten, setChanged, bufferWritten}
 use Rattle.front_side.specs.Sound.{sideInRange}
 
 -- the ranges, a part a field
@@ -46,9 +46,10 @@ pub fresh-side-within : SideWithin freshSide
 unfolding freshSide
 fresh-side-within = record { mr1 = refl; mr2 = refl; transmitter = refl; phases = restarted-in-range }
 
--- another pointer, and another enable
-pub pointed-within : (s : Side) (moved enabled : Bool) → SideWithin s → SideWithin (withModes (withEnabled s enabled) (s .mr1) (s .mr2) moved)
-pointed-within s moved enabled h = record { mr1 = h .mr1; mr2 = h .mr2; transmitter = h .transmitter; phases = h .phases }
+-- another pointer, another enable and another echoed level
+pub pointed-within : (s : Side) (moved enabled echo : Bool) → SideWithin s
+    → SideWithin (withModes (withEcho (withEnabled s enabled) echo) (s .mr1) (s .mr2) moved)
+pointed-within s moved enabled echo h = record { mr1 = h .mr1; mr2 = h .mr2; transmitter = h .transmitter; phases = h .phases }
 
 pub mode-written-within : (s : Side) (byte : ℕ) → modeNotModelled s byte ≡ false → SideWithin s → SideWithin (modeWritten s byte)
 unfolding modeNotModelled modeWritten pick

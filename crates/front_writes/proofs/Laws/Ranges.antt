@@ -17,7 +17,8 @@ use Rattle.front.specs.Front.{withRegisters}
 use Rattle.front_writes.specs.Writes.{sideWritten, acrWritten, outputsWritten, sharedWritten, registerWritten}
 use Rattle.front_commands.proofs.Laws.Ranges.{commanded-within, command-in-range}
 use Rattle.front.proofs.Laws.Ranges.{FrontWithin, HandedWithin, SideHandedWithin, sides-within, ports-within, nothing-within, handed-a-within, handed-b-within}
-use Rattle.front_side.proofs.Laws.Ranges.{SideWithin, mode-written-within, csr-written-within, set-changed-within, buffer-written-within}
+use Rattle.front_side.proofs.Laws.Ranges.{SideWithin, csr-written-within, set-changed-within, buffer-written-within}
+use Rattle.front_modes.proofs.Laws.Ranges.{mode-set-within}
 
 -- what a write of these registers must not choose
 pub record Modelled (f : Front) (n byte : ℕ) : Type 0 where
@@ -31,7 +32,9 @@ side-written-within : (s : Side) (n byte : ℕ) → (n ≡ 0 → modeNotModelled
 unfolding sideWritten
 side-written-within s n byte m h =
     pick-known SideHandedWithin (eqb n 0) _ _
-    (λ (e : eqb n 0 ≡ true). record { side = mode-written-within s byte (m (eqb-true n 0 e)) h; feed = refl })
+    (λ (e : eqb n 0 ≡ true).
+    let w = mode-set-within s byte (m (eqb-true n 0 e)) h in
+    record { side = w .side; feed = w .feed })
     (pick-all SideHandedWithin (eqb n 1) _ _ (record { side = csr-written-within s byte h; feed = refl })
     (pick-all SideHandedWithin (eqb n 2) _ _ (record { side = commanded-within s byte h; feed = command-in-range s byte })
     (record { side = buffer-written-within s byte h; feed = refl })))

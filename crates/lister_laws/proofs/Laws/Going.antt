@@ -9,6 +9,7 @@ use Rattle.inputs.specs.declared.inputs.ChannelPins.{ChannelPins}
 use Rattle.inputs.specs.Inputs.{pinsOfA}
 use Rattle.clocks.specs.Channel as inClocks
 use Rattle.front_side.specs.declared.side.Side.{Side}
+use Rattle.front_modes.specs.Modes.{txdOf}
 use Rattle.front_side.specs.Side.{bufferWritten}
 use Rattle.front_side_clocks.specs.Clocking.{sideClocked}
 use Rattle.front_clocks.specs.Clocking.{clockedOf, clockedWith}
@@ -73,7 +74,7 @@ pub record Going (d : Device) (s : Side) : Type 0 where
 -- an answer that leaves one, with its TxDA
 pub record Shows (a : Answer) (s : Side) : Type 0 where
   pub going : Going (a .state) s
-  pub line : a .lines .txda ≡ s .transmitter .txd
+  pub line : a .lines .txda ≡ txdOf s
 
 -- ---- an event on it ----
 
@@ -112,7 +113,7 @@ unfolding linesOf
 answered d e s sound free side acr levels coded =
     let kept = keeps-sound d e sound free in
     subst (λ (a : Answer). Shows a s) (sym (accepts d e free kept))
-    (record { going = record { sound = kept; side = side; acr = acr; levels = levels; coded = coded }; line = ap (λ (x : Side). x .transmitter .txd) side })
+    (record { going = record { sound = kept; side = side; acr = acr; levels = levels; coded = coded }; line = ap txdOf side })
 
 pub tick-shows : (d : Device) (s : Side) → Going d s → Shows (stepOf d Tick) (sideTick s)
 tick-shows d s g =

@@ -18,13 +18,14 @@ use Rattle.bytes.specs.Bytes.{hasBit}
 use Rattle.inputs.specs.Inputs.{pinsOfA}
 use Rattle.front_side.specs.declared.side.Side.{Side}
 use Rattle.front_side.specs.Side.{bufferWritten}
-use Rattle.front_side_clocks.specs.Clocking.{transmitterPulsed, lineOf, sideClocked}
+use Rattle.front_modes.specs.Modes.{txdShown, txdOf}
+use Rattle.front_side_clocks.specs.Clocking.{transmitterPulsed, echoTaken, pulseOf, lineOf, sideClocked}
 use Rattle.lister_laws.proofs.Laws.Going.{sideTicked}
 use Rattle.chip_laws.proofs.Computing.{computing}
 
 -- "MR1 19, MR2 7", "code 11"
 abbrev sideWith : Transmitter → Phases → Side
-sideWith t p = record { mr1 = 19; mr2 = 7; moved = true; csr = 187; enabled = false; transmitter = t; phases = p }
+sideWith t p = record { mr1 = 19; mr2 = 7; moved = true; csr = 187; enabled = false; echo = true; transmitter = t; phases = p }
 
 -- before any byte
 abbrev pub preparedSide : Side
@@ -70,20 +71,20 @@ next-starts before byte = refl
 
 -- TxD in the middle of each bit, 384 ticks apart, and at the end
 pub record Sent (byte : ℕ) : Type 0 where
-  pub bit0 : sideTicked 192 (startedSide byte) .transmitter .txd ≡ frameLevel byte 0
-  pub bit1 : sideTicked 576 (startedSide byte) .transmitter .txd ≡ frameLevel byte 1
-  pub bit2 : sideTicked 960 (startedSide byte) .transmitter .txd ≡ frameLevel byte 2
-  pub bit3 : sideTicked 1344 (startedSide byte) .transmitter .txd ≡ frameLevel byte 3
-  pub bit4 : sideTicked 1728 (startedSide byte) .transmitter .txd ≡ frameLevel byte 4
-  pub bit5 : sideTicked 2112 (startedSide byte) .transmitter .txd ≡ frameLevel byte 5
-  pub bit6 : sideTicked 2496 (startedSide byte) .transmitter .txd ≡ frameLevel byte 6
-  pub bit7 : sideTicked 2880 (startedSide byte) .transmitter .txd ≡ frameLevel byte 7
-  pub bit8 : sideTicked 3264 (startedSide byte) .transmitter .txd ≡ frameLevel byte 8
-  pub bit9 : sideTicked 3648 (startedSide byte) .transmitter .txd ≡ frameLevel byte 9
+  pub bit0 : txdOf (sideTicked 192 (startedSide byte)) ≡ frameLevel byte 0
+  pub bit1 : txdOf (sideTicked 576 (startedSide byte)) ≡ frameLevel byte 1
+  pub bit2 : txdOf (sideTicked 960 (startedSide byte)) ≡ frameLevel byte 2
+  pub bit3 : txdOf (sideTicked 1344 (startedSide byte)) ≡ frameLevel byte 3
+  pub bit4 : txdOf (sideTicked 1728 (startedSide byte)) ≡ frameLevel byte 4
+  pub bit5 : txdOf (sideTicked 2112 (startedSide byte)) ≡ frameLevel byte 5
+  pub bit6 : txdOf (sideTicked 2496 (startedSide byte)) ≡ frameLevel byte 6
+  pub bit7 : txdOf (sideTicked 2880 (startedSide byte)) ≡ frameLevel byte 7
+  pub bit8 : txdOf (sideTicked 3264 (startedSide byte)) ≡ frameLevel byte 8
+  pub bit9 : txdOf (sideTicked 3648 (startedSide byte)) ≡ frameLevel byte 9
   pub over : sideTicked 3816 (startedSide byte) ≡ sentSide byte
 
 pub sent : (byte : ℕ) → Sent byte
-unfolding sideTicked sideClocked clockedOf sideOf tickedOf dividedOf sixteenthOf periodOf transmitter1x transmitterPulsed lineOf afterInput pulsedOf sentOnOf bitOfPulse pinsOfA hasBit pick
+unfolding sideTicked sideClocked clockedOf sideOf tickedOf dividedOf sixteenthOf periodOf transmitter1x transmitterPulsed echoTaken lineOf pulseOf txdShown afterInput pulsedOf sentOnOf bitOfPulse pinsOfA hasBit pick
 sent byte =
     record {
       bit0 = refl;

@@ -17,7 +17,7 @@ use Rattle.transmitter_state.specs.declared.state.Transmitter.{Transmitter}
 use Rattle.transmitter_state.specs.State.{freshTransmitter}
 use Rattle.transmitter_state.specs.Sending.{canStart, takenOf, idleOf, begunOf, sentOnOf, heldHigh, pulsedOf}
 use Rattle.transmitter.specs.declared.transmitter.Input.{Input}
-use Rattle.transmitter.specs.declared.transmitter.Input.the-variants.{Nothing, Pulse, Write, Enable, Disable, StartBreak, StopBreak, Reset, ChipReset}
+use Rattle.transmitter.specs.declared.transmitter.Input.the-variants.{Nothing, Pulse, Write, Enable, Disable, StartBreak, StopBreak, Reset, ChipReset, ModeChange}
 use Rattle.transmitter.specs.Commands.{writtenOf, breakEnded, droppedOf, breakAsked}
 use Rattle.transmitter.specs.Transmitter.{afterInput}
 use Rattle.transmitter.specs.Frames.{after}
@@ -116,6 +116,7 @@ input-within t StartBreak h = asked-within t h
 input-within t StopBreak h = ended-within t h
 input-within t Reset h = dropped-within (breakEnded t) (ended-within t h)
 input-within t ChipReset h = record { phase = omega arith; length = omega arith; sent = omega arith; left = omega arith }
+input-within t ModeChange h = record { phase = omega arith; length = omega arith; sent = omega arith; left = h .left }
 
 -- ---- the tests of specs/Sound ----
 

@@ -18,6 +18,12 @@ pub const STOP_BREAK: u8 = 0x70;
 pub const PINS_16X: u8 = 0xEE;
 pub const PINS_1X: u8 = 0xFF;
 
+/// MR2 bits 7-6, with one stop bit.
+pub const NORMAL: u8 = 0x07;
+pub const ECHO: u8 = 0x47;
+pub const LOCAL: u8 = 0x87;
+pub const REMOTE: u8 = 0xC7;
+
 pub const IP0: u8 = 0x01;
 pub const IP1: u8 = 0x02;
 pub const IP2: u8 = 0x04;
@@ -57,6 +63,14 @@ impl Board {
         board
     }
 
+    /// The same in a mode, the command coming after it.
+    pub fn in_mode(mode: u8, csr: u8, command: u8) -> Board {
+        let mut board = Board::on_pins(csr, 0);
+        board.to(mode);
+        board.command(command);
+        board
+    }
+
     // ------------------------------------------------------------ events
 
     pub fn give(&mut self, event: Event) -> Seen {
@@ -89,6 +103,11 @@ impl Board {
         self.command(POINTER_TO_MR1);
         self.write(0, mr1);
         self.write(0, mr2);
+    }
+
+    /// MR2 of A; the pointer is there.
+    pub fn to(&mut self, mr2: u8) -> Seen {
+        self.write(0, mr2)
     }
 
     pub fn preload(&mut self, preload: u16) {
@@ -128,6 +147,10 @@ impl Board {
 
     pub fn sr(&mut self) -> u8 {
         self.read(1)
+    }
+
+    pub fn txda(&mut self) -> bool {
+        self.lines().txda
     }
 
     pub fn isr(&mut self) -> u8 {

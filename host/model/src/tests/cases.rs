@@ -179,12 +179,12 @@ fn trap_3() {
     assert_eq!([(); 5].map(|()| board.read(3)), [1, 2, 3, 5, 5]);
 }
 
-/// 5 before 8; MR1 bits 6, 5 and MR2 bit 4 are allowed and unused; refused: length 0, space untouched.
+/// 5 before 8; MR1 bits 6, 5 and MR2 bits 7, 6, 4 are allowed and unused; refused: length 0, space untouched.
 #[test]
 fn frame_request() {
     let mut space = [7; 200];
     let refused = |number| FrameAnswer { number, length: 0 };
-    for (mr1, mr2) in [(0x80, 0), (0x18, 0), (0, 0x80), (0, 0x40), (0, 0x20)] {
+    for (mr1, mr2) in [(0x80, 0), (0x18, 0), (0, 0x20), (0, 0xE0)] {
         assert_eq!(frame(mr1, mr2, 0, &mut space), refused(5));
         assert_eq!(frame(mr1, mr2, 0, &mut []), refused(5));
     }

@@ -7,8 +7,8 @@ use Rattle.chip_shown.specs.Shown.{shownOf}
 show-status-requires : tie.Need-show-status-requires
 show-status-requires c κs = tt
 
-transmitter-status-requires : tie.Need-transmitter-status-requires
-transmitter-status-requires c κs = tt
+show-sender-requires : tie.Need-show-sender-requires
+show-sender-requires c κs = tt
 
 status-register-requires : tie.Need-status-register-requires
 status-register-requires c κs = tt
@@ -18,14 +18,14 @@ received-of-requires c κs = tt
 
 returns : tie.Need-returns
 unfolding shownOf
-returns c = simp (c .received-of .ensures, c .before .status-register .ensures, c .before .before .transmitter-status .ensures, c .before .before .before .show-status .ensures)
+returns c = simp (c .received-of .ensures, c .before .status-register .ensures, c .before .before .show-sender .ensures, c .before .before .before .show-status .ensures)
 
 pub show-channel-spec : {M : Type 1} → statement M
 show-channel-spec =
     tie.close
     (tie.spec
     show-status-requires
-    transmitter-status-requires
+    show-sender-requires
     status-register-requires
     received-of-requires
     returns)

@@ -1,4 +1,4 @@
--- `mr2_not_modelled` meets its contract: its two tests are the definition's. Assumes nothing.
+-- `mr2_not_modelled` meets its contract: its test is the definition's. Assumes nothing.
 use borrow.Author.Needs.{needs}
 use Rattle.format.proofs.format.mr2_not_modelled.Statement.{statement}
 use Rattle.format.proofs.format.mr2_not_modelled.Tie as tie

@@ -25,9 +25,12 @@ enabled-then-requires c κs = tt
 enabled-after-requires : tie.Need-enabled-after-requires
 enabled-after-requires c κs = tt
 
+echo-after-requires : tie.Need-echo-after-requires
+echo-after-requires c κs = tt
+
 returns : tie.Need-returns
 unfolding sideCommanded
-returns c = simp (c .before .enabled-after .ensures, c .before .before .enabled-then .ensures, c .before .before .before .step-transmitter2 .ensures, c .before .before .before .before .step-transmitter .ensures, c .before .before .before .before .before .transmitter-enabling .ensures, c .before .before .before .before .before .before .transmitter-effect .ensures, c .before .before .before .before .before .before .before .effect-bits .ensures)
+returns c = simp (c .before .echo-after .ensures, c .before .before .enabled-after .ensures, c .before .before .before .enabled-then .ensures, c .before .before .before .before .step-transmitter2 .ensures, c .before .before .before .before .before .step-transmitter .ensures, c .before .before .before .before .before .before .transmitter-enabling .ensures, c .before .before .before .before .before .before .before .transmitter-effect .ensures, c .before .before .before .before .before .before .before .before .effect-bits .ensures)
 
 pub command-side-spec : {M : Type 1} → statement M
 command-side-spec =
@@ -40,4 +43,5 @@ command-side-spec =
     step-transmitter-requires-2
     enabled-then-requires
     enabled-after-requires
+    echo-after-requires
     returns)

@@ -10,7 +10,7 @@ is-sixteen-requires : tie.Need-is-sixteen-requires
 is-sixteen-requires c κs = tt
 
 returns : tie.Need-returns
-returns c = simp (c .is-sixteen .ensures, c .before .before .format-of .ensures)
+returns c = simp (c .is-sixteen .ensures, c .before .format-of .ensures)
 
 pub setting-of-spec : {M : Type 1} → statement M
 setting-of-spec = tie.close (tie.spec format-of-requires is-sixteen-requires returns)

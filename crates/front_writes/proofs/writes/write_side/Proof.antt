@@ -6,8 +6,11 @@ use Rattle.format.proofs.Laws.{steps}
 use Rattle.format.specs.Pick.{pick}
 use Rattle.front_writes.specs.Writes.{sideWritten}
 
-write-mode-requires : tie.Need-write-mode-requires
-write-mode-requires c κs = tt
+set-mode-requires : tie.Need-set-mode-requires
+set-mode-requires c κs = tt
+
+mode-feed-requires : tie.Need-mode-feed-requires
+mode-feed-requires c κs = tt
 
 hand-side-requires : tie.Need-hand-side-requires
 hand-side-requires c κs = tt
@@ -29,7 +32,7 @@ hand-side-requires-3 c κs = tt
 
 returns : tie.Need-returns
 unfolding sideWritten pick
-returns c = simp (c .hand-side .ensures, c .before .write-mode .ensures, c .before .before .match .keys1)
+returns c = simp (c .hand-side .ensures, c .before .mode-feed .ensures, c .before .before .set-mode .ensures, c .before .before .before .match .keys1)
 
 returns-2 : tie.Need-returns-2
 unfolding sideWritten pick
@@ -47,7 +50,8 @@ pub write-side-spec : {M : Type 1} → statement M
 write-side-spec =
     tie.close
     (tie.spec
-    write-mode-requires
+    set-mode-requires
+    mode-feed-requires
     hand-side-requires
     write-csr-requires
     hand-side-requires-2

@@ -55,6 +55,12 @@ enum-told-7 c = search needs
 fresh-transmitter-requires : tie.Need-fresh-transmitter-requires
 fresh-transmitter-requires c κs = search needs
 
+enum-told-8 : tie.Need-enum-told-8
+enum-told-8 c = search needs
+
+drop-sending-requires : tie.Need-drop-sending-requires
+drop-sending-requires c κs = search needs
+
 returns : tie.Need-returns
 unfolding afterInput
 returns c = simp (c .enum-told .given .1)
@@ -91,6 +97,10 @@ returns-9 : tie.Need-returns-9
 unfolding afterInput
 returns-9 c = simp (c .fresh-transmitter .ensures, c .before .enum-told7 .given .1)
 
+returns-10 : tie.Need-returns-10
+unfolding afterInput
+returns-10 c = simp (c .drop-sending .ensures, c .before .enum-told8 .given .1)
+
 pub step-transmitter-spec : {M : Type 1} → statement M
 step-transmitter-spec =
     tie.close
@@ -112,6 +122,8 @@ step-transmitter-spec =
     reset-requires
     enum-told-7
     fresh-transmitter-requires
+    enum-told-8
+    drop-sending-requires
     returns
     returns-2
     returns-3
@@ -120,4 +132,5 @@ step-transmitter-spec =
     returns-6
     returns-7
     returns-8
-    returns-9)
+    returns-9
+    returns-10)
