@@ -25,3 +25,4 @@ pub mod Oldest
 pub mod Clearing
 pub mod Sums
 pub mod Follows
+pub mod Looped

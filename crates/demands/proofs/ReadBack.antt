@@ -1,19 +1,18 @@
 -- Demand 2, the read-back: while nothing disturbs it a receiver is handed pulses alone, so what it becomes hangs on what its pulses find; and of one
 -- receiver that finds a frame the read-back is proved. What a sender's pulses show is its frame. Assumes nothing.
-use Prim.Native.Nat.{ℕ, _/_, _%_}
-use mathlib.Core.Path.{_≡_, refl, sym, ap, subst, _∙_}
-use mathlib.Core.Bool.{Bool, true, false, not, _&&_, _||_, true≢false, and-true, and-eq-true-iff}
-use mathlib.Core.List.{List, [], _∷_, _++_, map-append}
+use Prim.Native.Nat.{ℕ}
+use mathlib.Core.Path.{_≡_, refl, sym, ap, _∙_}
+use mathlib.Core.Bool.{Bool, true, false, not, _&&_, _||_, true≢false, and-eq-true-iff}
+use mathlib.Core.List.{List, [], _∷_, _++_}
 use native.Mathlib.Omega.{arith}
 use lib.Dec.{eqb}
 use borrow.Author.Tests.{eqb-true}
 use lib.ListN.{length}
 use lib.Seq.{take-length}
 use Rattle.format.specs.Pick.{pick}
-use Rattle.format.specs.Format.{formatOf, stopCodeOf}
+use Rattle.format.specs.Format.{stopCodeOf}
 use Rattle.format.specs.declared.format.Format.{Format}
 use Rattle.format.specs.Stop.{stopLengthOf}
-use Rattle.format.proofs.Laws.Pick.{pick-no, pick-all}
 use Rattle.frame.specs.Levels.{frame}
 use Rattle.feed.specs.declared.feed.Setting.{Setting}
 use Rattle.sampler.specs.Lines.{Line, at16}
@@ -30,8 +29,6 @@ use Rattle.receiver.specs.ReadBack.{pulses, sent}
 use Rattle.receiver.proofs.ReadBack.{sent-frame, read-back-frame}
 use Rattle.transmitter.specs.Transmitter.{afterInput}
 use Rattle.transmitter.specs.Frames.{line}
-use Rattle.clocks.specs.Channel.{isSixteen}
-use Rattle.clocks.specs.Pulses.Side.{transmits}
 use Rattle.events.specs.Command.{commandForbidden}
 use Rattle.front.specs.declared.front.Front.{Front}
 use Rattle.events.specs.declared.events.Event.{Event}
@@ -39,17 +36,15 @@ use Rattle.events.specs.declared.events.Event.the-variants.{ChipReset, Read, Wr
 use Rattle.chip_step.specs.Chip.{stepOf}
 use Rattle.chip_laws.specs.Reset.{resetAt}
 use Rattle.demands.specs.Chip.{Chip, Channel, chipOf, registerOf, andThen, eachOf}
-use Rattle.demands.specs.Told.{Programmed, unprogrammed, withPointer, modeThen, csrThen, commandThen, programmedThen, programmed, commands, modeBits}
-use Rattle.demands.specs.Told.{inNormal, inLocal, modeChanges}
-use Rattle.demands.specs.Clocks.{frontThen, frontAfter, sideOf, pulsedBy, pulsedAfter}
-use Rattle.demands.specs.Delivery.{linesAt, linesFrom, ledger}
-use Rattle.demands.specs.Sending.{inputsAt, inputsFrom, senderAfter, standing, Starts, startedFrame, keepsSending, keepsFrom, pulsesFrom, sentFrom}
+use Rattle.demands.specs.Told.{programmed, commands, inNormal, inLocal, modeChanges}
+use Rattle.demands.specs.Clocks.{frontThen, frontAfter, sideOf}
+use Rattle.demands.specs.Delivery.{linesFrom, ledger}
+use Rattle.demands.specs.Sending.{inputsFrom, senderAfter, standing, Starts, startedFrame, keepsFrom, pulsesFrom, sentFrom}
 use Rattle.demands.specs.ReadBack.{Listens, undisturbed, carried, formatAfter, SameFormat, ReadBack, ReadsBack}
 use Rattle.demands.proofs.Laws.Run.{runAt, run-append, run-sound, run-front, receiverAt, feedsFrom, run-receiver}
 use Rattle.demands.proofs.Laws.Looks.{change-bit, ready-bit}
-use Rattle.demands.proofs.Laws.Told.{over-then, programmedOf}
-use Rattle.demands.proofs.Laws.Frames.{line-append}
-use Rattle.demands.proofs.Laws.Senders.{sender-then, event-line}
+use Rattle.demands.proofs.Laws.Told.{programmedOf}
+use Rattle.demands.proofs.Laws.Looped.{pick-not, no-command, no-change, Looping, looped-lines, undisturbed-keeps}
 use Rattle.demands.proofs.Laws.Feeds.{handsTo, hands, pulse-all}
 use Rattle.demands.proofs.Laws.Lines.{lines-from}
 use Rattle.demands.proofs.Laws.Formats.{same-format, same-frame}
@@ -70,21 +65,6 @@ pulseOrNothing Feeds.ChipReset = false
 abbrev onlyPulses : List Feed → Bool
 onlyPulses [] = true
 onlyPulses (x ∷ xs) = pulseOrNothing x && onlyPulses xs
-
-pick-not : {X : Type 0} (P : X → Type 0) (t : Bool) (x y : X) → not t ≡ true → P y → P (pick t x y)
-unfolding pick
-pick-not P true x y h q = absurd (true≢false (sym h))
-pick-not P false x y h q = q
-
-no-command : (a b c d : Bool) → not (a || (b || c)) ≡ true → not (c && d) ≡ true
-no-command true b c d h = absurd (true≢false (sym h))
-no-command false true c d h = absurd (true≢false (sym h))
-no-command false false true d h = absurd (true≢false (sym h))
-no-command false false false d h = refl
-
-no-change : (a b c : Bool) → not (a || b) ≡ true → not (a && c) ≡ true
-no-change true b c h = absurd (true≢false (sym h))
-no-change false b c h = refl
 
 pulse-handed : (ch : Channel) (f : Front) (e : Event) → undisturbed ch e ≡ true → pulseOrNothing (handsTo ch f e) ≡ true
 pulse-handed ch f ChipReset h = absurd (true≢false (sym h))
@@ -194,111 +174,6 @@ sent-read there here sender receiver es fs before gs e h normal k all sixteen fo
     frame-read here receiver before gs code x l u (lines ∙ ap (carried (at16 (formatAfter receiver before))) (whole ∙ same))
 
 -- ---- local loopback ----
-
--- an undisturbed event sets nothing of the channel but the pointer
-told-kept : (ch : Channel) (p : Programmed) (e : Event) → undisturbed ch e ≡ true → programmedThen ch p e ≡ withPointer p (programmedThen ch p e .moved)
-unfolding programmedThen
-told-kept ch p ChipReset h = absurd (true≢false (sym h))
-told-kept ch p (Read n) h = pick-all (λ (q : Programmed). q ≡ withPointer p (q .moved)) _ _ _ refl refl
-told-kept ch p (Write n byte) h = go (eqb n (registerOf ch 0)) (eqb n (registerOf ch 1)) (eqb n (registerOf ch 2)) h
-  where
-    Kept : Programmed → Type 0
-    Kept q = q ≡ withPointer p (q .moved)
-
-    go : (a b c : Bool) → not (a || (b || c)) ≡ true → Kept (pick a (modeThen p byte) (pick b (csrThen p byte) (pick c (commandThen p byte) p)))
-    go true b c h = absurd (true≢false (sym h))
-    go false true c h = absurd (true≢false (sym h))
-    go false false true h = absurd (true≢false (sym h))
-    go false false false h = pick-no-three
-      where
-        pick-no-three : Kept (pick false (modeThen p byte) (pick false (csrThen p byte) (pick false (commandThen p byte) p)))
-        pick-no-three = rw (pick-no false (modeThen p byte) _ refl, pick-no false (csrThen p byte) _ refl, pick-no false (commandThen p byte) p refl)
-told-kept ch p Acknowledge h = refl
-told-kept ch p (Pins x) h = refl
-told-kept ch p Tick h = refl
-
--- in local loopback, at 16X and in this format
-record Looping (p : Programmed) (f : Format) : Type 0 where
-  receives : p .receives ≡ true
-  local : modeBits p ≡ 2
-  format : formatOf (p .mr1) ≡ f
-  sixteen : isSixteen (p .csr % 16) ≡ true
-
-looping-next : (ch : Channel) (es : List Event) (e : Event) (f : Format) → undisturbed ch e ≡ true → Looping (programmed ch es) f
-    → Looping (programmed ch (andThen es e)) f
-looping-next ch es e f h l =
-    subst (λ (p : Programmed). Looping p f) (sym (over-then (programmedThen ch) unprogrammed es e ∙ told-kept ch (programmed ch es) e h))
-    (record { receives = l .receives; local = l .local; format = l .format; sixteen = l .sixteen })
-
--- what is heard of an event is the level that its pulse puts out
-looped-event : (levels : ℕ) (ch : Channel) (es : List Event) (e : Event) (f : Format) → undisturbed ch e ≡ true → Looping (programmed ch es) f
-    → linesAt ch levels es e ≡ carried (at16 f) (line afterInput (senderAfter levels ch es) (inputsAt levels ch es e))
-unfolding linesAt pulsedBy pick
-looped-event levels ch es e f h l =
-    let put : line afterInput (senderAfter levels ch es) (inputsAt levels ch es e) ≡ pick (pulsedAfter transmits ch levels es e) (level e ∷ []) [] =
-    event-line levels ch es e (senderAfter levels ch es) ∙ rw (l .local, and-true, ← sender-then levels ch es e) in
-    rw put (heard e h ∙ sym (carry (pulsedAfter transmits ch levels es e) (level e)))
-  where
-    level : Event → Bool
-    level e = senderAfter levels ch (andThen es e) .txd
-
-    carry : (b x : Bool) → carried (at16 f) (pick b (x ∷ []) []) ≡ pick b (pulse x (at16 f) ∷ []) []
-    carry true x = refl
-    carry false x = refl
-
-    Heard : Event → Type 0
-    Heard e = linesAt ch levels es e ≡ pick (pulsedAfter transmits ch levels es e) (pulse (level e) (at16 f) ∷ []) []
-
-    heard : (e : Event) → undisturbed ch e ≡ true → Heard e
-    heard ChipReset h = absurd (true≢false (sym h))
-    heard (Read n) h = refl
-    heard (Write n byte) h =
-        pick-not (λ (xs : List Line). xs ≡ []) (commands ch n byte) _ _
-        (no-command (eqb n (registerOf ch 0)) (eqb n (registerOf ch 1)) (eqb n (registerOf ch 2)) (not (commandForbidden byte)) h)
-        (pick-not (λ (xs : List Line). xs ≡ []) (modeChanges ch (programmed ch es) n byte) _ _ (no-change (eqb n (registerOf ch 0)) _ _ h) refl)
-    heard Acknowledge h = refl
-    heard (Pins x) h = rw (l .receives, l .local, l .format, l .sixteen)
-    heard Tick h = rw (l .receives, l .local, l .format, l .sixteen)
-
-looped-lines : (levels : ℕ) (ch : Channel) (before gs : List Event) (f : Format) → eachOf (undisturbed ch) gs ≡ true → Looping (programmed ch before) f
-    → linesFrom ch levels before gs ≡ carried (at16 f) (line afterInput (senderAfter levels ch before) (inputsFrom levels ch before gs))
-unfolding linesFrom inputsFrom line
-looped-lines levels ch before [] f h l = refl
-looped-lines levels ch before (e ∷ es) f h l =
-    let both = and-eq-true-iff (undisturbed ch e) _ .0 h in
-    rw (
-      line-append (senderAfter levels ch before) (inputsAt levels ch before e) _,
-      ← sender-then levels ch before e,
-      map-append,
-      looped-event levels ch before e f (both .0) l,
-      looped-lines levels ch (andThen before e) es f (both .1) (looping-next ch before e f (both .0) l),
-    )
-
--- what disturbs no receiver keeps what is sent
-undisturbed-keeps : (ch : Channel) (before gs : List Event) → eachOf (undisturbed ch) gs ≡ true → keepsFrom ch before gs ≡ true
-unfolding keepsFrom
-undisturbed-keeps ch before [] h = refl
-undisturbed-keeps ch before (e ∷ es) h =
-    let both = and-eq-true-iff (undisturbed ch e) _ .0 h in
-    and-eq-true-iff (keepsSending ch before e) _ .1 (go e (both .0), undisturbed-keeps ch (andThen before e) es (both .1))
-  where
-    go : (e : Event) → undisturbed ch e ≡ true → keepsSending ch before e ≡ true
-    go ChipReset h = absurd (true≢false (sym h))
-    go (Read n) h = refl
-    go (Write n byte) h =
-        and-eq-true-iff (not (commands ch n byte && eqb (byte / 16 % 8) 3)) _ .1 (
-          no-reset (eqb n (registerOf ch 0)) (eqb n (registerOf ch 1)) (eqb n (registerOf ch 2)) _ _ h,
-          no-change (eqb n (registerOf ch 0)) _ _ h,
-        )
-      where
-        no-reset : (a b c d r : Bool) → not (a || (b || c)) ≡ true → not (c && d && r) ≡ true
-        no-reset true b c d r h = absurd (true≢false (sym h))
-        no-reset false true c d r h = absurd (true≢false (sym h))
-        no-reset false false true d r h = absurd (true≢false (sym h))
-        no-reset false false false d r h = refl
-    go Acknowledge h = refl
-    go (Pins x) h = refl
-    go Tick h = refl
 
 looped-read : (levels : ℕ) (ch : Channel) (es fs : List Event) (e : Event) → Starts levels ch es e → inLocal (programmed ch es) ≡ true
     → pulsesFrom levels ch es (e ∷ fs) ≡ length (startedFrame levels ch es e) → standing levels ch es e .sixteen ≡ true

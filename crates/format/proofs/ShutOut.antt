@@ -132,3 +132,8 @@ no-alwaysOneStopBit h = omega (arith, ap (λ (l : List ℕ). getD l 8 0) (h .onc
 no-nineForAll : Stops (λ (mr1 mr2 : ℕ). pick (eqb (mr1 % 4) 0) (mr2 % 16 + 17) (mr2 % 16 + 9)) whole → ⊥
 unfolding pick
 no-nineForAll h = omega (arith, ap (λ (l : List ℕ). getD l 8 0) (h .more 3 2 refl))
+
+-- order 2: "5 no longer covers MR2 bits 7-6.", and they are the mode's: taken for a part of the stop code
+no-modeInStop : Stops sixteenths (λ (mr2 : ℕ). mr2 / 64 % 4 + stopBitsOf (stopCodeOf mr2) .0) → ⊥
+unfolding stopBitsOf pick
+no-modeInStop h = omega (arith, h .modes 0 64 .1)

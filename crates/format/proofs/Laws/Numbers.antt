@@ -112,7 +112,7 @@ parity-bits =
 -- ---- the stop ----
 
 -- "Stop length in sixteenths: for 5 data bits 17+c; for 6 to 8, 9+c for c up to 7, else 17+c. With a 1X clock: one bit, two if bit 3 is set."
--- By MR1 and MR2: bit 4 of MR2, CTS, changes neither.
+-- By MR1 and MR2: bit 4 of MR2, CTS, changes neither; nor, by order 2, do bits 7-6.
 pub record Stops (sixteenths : ℕ → ℕ → ℕ) (whole : ℕ → ℕ) : Type 0 where
   pub five : (mr1 : ℕ) → mr1 % 4 ≡ 0
       → listed (sixteenths mr1) 32 0
@@ -127,6 +127,11 @@ pub record Stops (sixteenths : ℕ → ℕ → ℕ) (whole : ℕ → ℕ) : Type
       listed whole 32 0
       ≡ 1 ∷ 1 ∷ 1 ∷ 1 ∷ 1 ∷ 1 ∷ 1 ∷ 1 ∷ 2 ∷ 2 ∷ 2 ∷ 2 ∷ 2 ∷ 2 ∷ 2 ∷ 2
       ∷ 1 ∷ 1 ∷ 1 ∷ 1 ∷ 1 ∷ 1 ∷ 1 ∷ 1 ∷ 2 ∷ 2 ∷ 2 ∷ 2 ∷ 2 ∷ 2 ∷ 2 ∷ 2 ∷ []
+  pub modes : (mr1 mr2 : ℕ) → (sixteenths mr1 mr2 ≡ sixteenths mr1 (mr2 % 64)) × (whole mr2 ≡ whole (mr2 % 64))
+
+-- the stop code stands below bit 6
+below-modes : (mr2 : ℕ) → mr2 % 16 ≡ mr2 % 64 % 16
+below-modes mr2 = omega arith
 
 pub stops :
     Stops (λ (mr1 mr2 : ℕ). stopLengthOf (formatOf mr1 .width) (stopCodeOf mr2) .0) (λ (mr2 : ℕ). stopBitsOf (stopCodeOf mr2) .0)
@@ -136,4 +141,5 @@ stops =
       five = λ mr1 e. rw e;
       more = λ mr1 k e. rw (e, ne-eqb (suc k + 5) 5 (omega arith));
       once = refl;
+      modes = λ mr1 mr2. (rw (below-modes mr2), rw (below-modes mr2));
     }
