@@ -12,7 +12,7 @@ use Rattle.format.specs.Pick.{pick}
 use Rattle.format.specs.Digits.{bitsOf, oddOnes, cutOf}
 use Rattle.format.specs.Format.{mr1NotModelled, mr2NotModelled, formatOf, stopCodeOf}
 use Rattle.format.specs.Parity.{dataBits, hasParityOf, parityBitOf, parityBits}
-use Rattle.format.specs.Stop.{stopLengthOf, rowOf, stopBitsOf}
+use Rattle.format.specs.Stop.{stopLengthOf, stopBitsOf}
 use Rattle.format.proofs.Laws.Numbers.{Modelled, Widths, ParityBits, Stops}
 
 abbrev formatWith : ℕ → ℕ → Bool → Format
@@ -66,9 +66,11 @@ no-onePulseTooMany : ((c : ℕ) → c < 8 → c + 10 ≡ stopLengthOf (record { 
 unfolding stopLengthOf pick
 no-onePulseTooMany h = omega (arith, h 0 (omega arith))
 
-no-sixInFirstRow : ((w : Bits) → pick (eqb (w .0) 6) 0 16 ≡ rowOf w) → ⊥
-unfolding rowOf pick
-no-sixInFirstRow h = omega (arith, h (record { 0 = 6 }))
+-- "for 5 data bits 17+c; for 6 to 8, 9+c": the lengths of the other widths
+no-otherWidths :
+    ((w : Bits) (c : ℕ) → c < 8 → pick (eqb (w .0) 5) (c + 9) (c + 17) ≡ stopLengthOf w c .0) → ⊥
+unfolding stopLengthOf pick
+no-otherWidths h = omega (arith, h (record { 0 = 5 }) 0 (omega arith))
 
 -- ---- wrong definitions, each shut out by document 01's numbers ----
 -- Made in the definition and in the code together, they would still be refused.

@@ -10,10 +10,6 @@ use Rattle.format.specs.Pick.{pick}
 unfoldable pub stopLengthOf : Bits → ℕ → Pulses
 stopLengthOf w c = record { 0 = pick (eqb (w .0) 5) (c % 16 + 17) (pick (ltb (c % 16) 8) (c % 16 + 9) (c % 16 + 17)) }
 
--- where the codes of a width begin in a table of all codes for 5 data bits and then all codes for 6 to 8
-unfoldable pub rowOf : Bits → ℕ
-rowOf w = pick (eqb (w .0) 5) 0 16
-
 -- "With a 1X clock: one bit, two if bit 3 is set."
 unfoldable pub stopBitsOf : ℕ → Bits
 stopBitsOf c = record { 0 = pick (eqb (c / 8 % 2) 1) 2 1 }
