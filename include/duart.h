@@ -172,6 +172,15 @@ typedef struct duart_device {
     duart_receiver b;
 } duart_device;
 
+/* ---- the counter/timer ---- */
+
+/*
+ * A read of register 14 is a start and one of 15 a stop, which clears ISR bit 3. In the timer modes (ACR bit 6) order 4 says of
+ * the start: "a start that takes the output from low to high does set ISR bit 3". With the output high, and in the counter
+ * modes, it neither sets nor clears it; a change of ACR bits 6-4 raises the output too and sets no bit. Neither is a pulse of
+ * code 13. examples/spindle.c goes by it.
+ */
+
 /* ---- the modes of a channel ---- */
 
 /*

@@ -5,7 +5,7 @@ use mathlib.Core.List.{List, [], _∷_, _++_}
 use Rattle.chip_step.specs.Chip.{stepOf}
 use Rattle.demands.specs.Chip.{chipOf}
 use Rattle.demands.specs.Demand1.{requestFrame}
-use Rattle.demands.specs.Cases.{Row, holds, allHold, heard, pulsed, case1, case2, case3, case4, case4sent, case5, case6, case7, case7looped, case8, case9, case10, case11, Cases}
+use Rattle.demands.specs.Cases.{Row, holds, allHold, heard, pulsed, case1, case2, case3, case4, case4sent, case5, case6, case7, case7looped, case8, case9, case10, case11, case11low, Cases}
 use Rattle.demands.proofs.Computing.{computing}
 
 -- a case of ours
@@ -41,7 +41,7 @@ seventh-looped : Holds case7looped
 unfolding computing holds allHold pulsed
 seventh-looped = refl
 
-last-cases : Holds (case8 ++ case9 ++ case10 ++ case11)
+last-cases : Holds (case8 ++ case9 ++ case10 ++ case11 ++ case11low)
 unfolding computing holds allHold heard
 last-cases = refl
 

@@ -1,8 +1,8 @@
 -- The counter/timer as it is shown: what loads it and the pulses since bring it where crate timer's theorems say; a counter that does not run stays,
--- and a stop leaves a timer as it is but for its bit; a start and a write of ACR leave its bit. Assumes nothing.
+-- and a stop leaves a timer as it is but for its bit; a start sets it where a timer's output was low, and a write of ACR leaves it. Assumes nothing.
 use Prim.Native.Nat.{ℕ, _+_, _%_, _*_, _-_, _<_, _/_}
 use mathlib.Core.Path.{_≡_, refl, sym, _∙_, ap}
-use mathlib.Core.Bool.{Bool, true, false, _||_, and-eq-true-iff}
+use mathlib.Core.Bool.{Bool, true, false, not, _&&_, _||_, or-false, and-eq-true-iff}
 use mathlib.Core.List.{List, _∷_, _++_}
 use native.Mathlib.Omega.{arith}
 use lib.Dec.{eqb, leb}
@@ -15,6 +15,7 @@ use Rattle.timer.specs.Timer.{startedOf, stoppedOf, modeChanged}
 use Rattle.timer.specs.Counts.{pulsesOf}
 use Rattle.timer.specs.Modes.{timerIn}
 use Rattle.timer.proofs.Modes.{timer-mode}
+use Rattle.timer.proofs.Counts.{obeys}
 use Rattle.bytes.specs.Bytes.{hasBit}
 use Rattle.outputs.specs.Outputs.{drivenOp3}
 use Rattle.front.specs.declared.front.Front.{Front}
@@ -27,11 +28,11 @@ use Rattle.chip_step.specs.Chip.{stepOf}
 use Rattle.demands.specs.Chip.{over, chipOf, andThen, shows, linesAfter, eachOf}
 use Rattle.demands.specs.Clocks.{frontThen, frontAfter}
 use Rattle.demands.specs.Registers.{opcrThen, modeAfter}
-use Rattle.demands.specs.Counter.{preloadAfter, leavesCounter, loads, since, Loaded, countShown, Counter}
+use Rattle.demands.specs.Counter.{preloadAfter, leavesCounter, loads, since, Loaded, outputShown, countShown, Counter}
 use Rattle.demands.proofs.Laws.Bits.{bit-3}
 use Rattle.demands.proofs.Laws.Run.{runAt, run-front, run-sound, front-byte}
 use Rattle.demands.proofs.Laws.Fronts.{frontWritten, front-read, front-written}
-use Rattle.demands.proofs.Laws.Told.{over-append, over-then, acr-told}
+use Rattle.demands.proofs.Laws.Told.{over-append, over-then, acr-next, acr-told}
 use Rattle.demands.proofs.Laws.Ports.{opcr-told}
 use Rattle.demands.proofs.Laws.Looks.{chip, interrupts-shown}
 use Rattle.demands.proofs.Laws.Pins.{not-twice, pins}
@@ -74,7 +75,7 @@ count-law : (levels mode : ℕ) (es fs : List Event) → Loaded mode es (Read 14
 count-law levels mode es fs s h =
     count-whole levels (es ++ Read 14 ∷ fs)
     ∙ rw (preload-told levels es)
-    (counter-count mode _ _ _ (started-told levels mode es fs s) h (low-preload levels mode es fs (Read 14) s))
+    (counter-count mode _ _ _ _ (started-told levels mode es fs s) h (low-preload levels mode es fs (Read 14) s))
 
 terminal-law : (levels mode : ℕ) (es fs : List Event) → Loaded mode es (Read 14) fs → timerIn mode ≡ false
     → hasBit (shows chip levels (es ++ Read 14 ∷ fs) 5) 3
@@ -82,29 +83,29 @@ terminal-law : (levels mode : ℕ) (es fs : List Event) → Loaded mode es (Read
 terminal-law levels mode es fs s h =
     ready-shown levels (es ++ Read 14 ∷ fs)
     ∙ rw (ready-shown levels es, preload-told levels es)
-    (counter-ready mode _ _ _ (started-told levels mode es fs s) h (low-preload levels mode es fs (Read 14) s))
+    (counter-ready mode _ _ _ _ (started-told levels mode es fs s) h (low-preload levels mode es fs (Read 14) s))
 
 reloads-law : (levels mode : ℕ) (es fs : List Event) (load : Event) → Loaded mode es load fs → timerIn mode ≡ true
     → countShown chip levels (es ++ load ∷ fs)
     ≡ (pulsesOf (preloadAfter es) - since mode levels es load fs % pulsesOf (preloadAfter es)) % 65536
 reloads-law levels mode es fs load s h =
-    let gone = timer-since mode _ _ _ (loaded-told levels mode es fs load s h) h (low-preload levels mode es fs load s) in
+    let gone = timer-since mode _ _ _ _ (loaded-told levels mode es fs load s h) h (low-preload levels mode es fs load s) in
     count-whole levels (es ++ load ∷ fs) ∙ rw (preload-told levels es, ← gone .loaded) (gone .gone .count)
 
 toggles-law : (levels mode : ℕ) (es fs : List Event) (load : Event) → Loaded mode es load fs → timerIn mode ≡ true
     → hasBit (shows chip levels (es ++ load ∷ fs) 5) 3
-    ≡ (hasBit (shows chip levels es 5) 3 || leb (2 * pulsesOf (preloadAfter es)) (since mode levels es load fs))
+    ≡ (hasBit (shows chip levels (andThen es load) 5) 3 || leb (2 * pulsesOf (preloadAfter es)) (since mode levels es load fs))
 toggles-law levels mode es fs load s h =
     ready-shown levels (es ++ load ∷ fs)
-    ∙ rw (ready-shown levels es, preload-told levels es)
-    (timer-ready mode _ _ _ (loaded-told levels mode es fs load s h) h (low-preload levels mode es fs load s))
+    ∙ rw (ready-shown levels (andThen es load), preload-told levels es)
+    (timer-ready mode _ _ _ _ (loaded-told levels mode es fs load s h) h (low-preload levels mode es fs load s))
 
 output-law : (levels mode : ℕ) (es fs : List Event) (load : Event) → Loaded mode es load fs → timerIn mode ≡ true
     → eqb (over opcrThen 0 (es ++ load ∷ fs) / 4 % 4) 1 ≡ true
     → hasBit (linesAfter chip levels (es ++ load ∷ fs) .op) 3 ≡ eqb (since mode levels es load fs / pulsesOf (preloadAfter es) % 2) 0
 output-law levels mode es fs load s h o =
     let went = loaded-told levels mode es fs load s h in
-    let gone = timer-since mode _ _ _ went h (low-preload levels mode es fs load s) in
+    let gone = timer-since mode _ _ _ _ went h (low-preload levels mode es fs load s) in
     output-shown levels (es ++ load ∷ fs) o (ap isTimer (went .goes .chosen) ∙ timer-mode mode ∙ h)
     ∙ rw (preload-told levels es, ← gone .loaded) (gone .gone .output)
 
@@ -178,25 +179,48 @@ runs-law levels es fs m l = (count, output)
 
 -- ---- what leaves its bit, and its count ----
 
-started-ready : (t : Timer) (mode : ℕ) → startedOf t mode .ready ≡ t .ready
-unfolding startedOf
-started-ready t mode = pick-all (λ (u : Timer). u .ready ≡ t .ready) (isTimer mode) _ _ refl refl
-
 changed-ready : (t : Timer) (before now : ℕ) → modeChanged t before now .ready ≡ t .ready
 unfolding modeChanged
 changed-ready t before now = pick-all (λ (u : Timer). u .ready ≡ t .ready) _ _ _ refl refl
-
-starts-law : (levels : ℕ) (es : List Event) → hasBit (shows chip levels (andThen es (Read 14)) 5) 3 ≡ hasBit (shows chip levels es 5) 3
-unfolding pick
-starts-law levels es =
-    ready-shown levels (andThen es (Read 14))
-    ∙ rw (ready-shown levels es, over-then frontThen (frontAt levels) es (Read 14), front-read (frontAfter levels es) 14)
-    (started-ready (frontAfter levels es .timer) _)
 
 -- a write
 written-timer : (levels n byte : ℕ) (es : List Event)
     → frontAfter levels (andThen es (Write n byte)) .timer ≡ frontWritten (frontAfter levels es) n byte .timer
 written-timer levels n byte es = rw (over-then frontThen (frontAt levels) es (Write n byte), front-written (frontAfter levels es) n byte)
+
+-- the output, were it put on OP3
+shown-output : (levels : ℕ) (es : List Event) → timerIn (modeAfter es) ≡ true
+    → outputShown chip levels es ≡ frontAfter levels es .timer .output
+unfolding pick
+shown-output levels es h =
+    let f = frontAfter levels es in
+    let chosen : eqb (over opcrThen 0 (andThen es (Write 13 4)) / 4 % 4) 1 ≡ true = rw (over-then opcrThen 0 es (Write 13 4)) in
+    let mode : isTimer (modeOf (frontAfter levels (andThen es (Write 13 4)) .acr)) ≡ true =
+    rw (over-then frontThen (frontAt levels) es (Write 13 4), acr-next f (Write 13 4))
+    (timer-mode (modeOf (f .acr)) ∙ rw (acr-told levels es) at h) in
+    output-shown levels (andThen es (Write 13 4)) chosen mode ∙ rw (written-timer levels 13 4 es)
+
+started-ready : (t : Timer) (mode : ℕ) → startedOf t mode .ready ≡ (t .ready || (timerIn mode && not (t .output)))
+started-ready t mode = go (timerIn mode) refl
+  where
+    go : (b : Bool) → timerIn mode ≡ b → startedOf t mode .ready ≡ (t .ready || (timerIn mode && not (t .output)))
+    go true h = rw (obeys .startsTimer t mode h, h)
+    go false h = rw (obeys .startsCounter t mode h, h) (sym (or-false (t .ready)))
+
+starts-law : (levels : ℕ) (es : List Event)
+    → hasBit (shows chip levels (andThen es (Read 14)) 5) 3
+    ≡ (hasBit (shows chip levels es 5) 3 || (timerIn (modeAfter es) && not (outputShown chip levels es)))
+unfolding pick
+starts-law levels es =
+    let t = frontAfter levels es .timer in
+    ready-shown levels (andThen es (Read 14))
+    ∙ rw (ready-shown levels es, over-then frontThen (frontAt levels) es (Read 14), front-read (frontAfter levels es) 14, ← acr-told levels es)
+    (started-ready t (modeAfter es) ∙ ap (λ (x : Bool). t .ready || x) (go (timerIn (modeAfter es)) refl))
+  where
+    go : (b : Bool) → timerIn (modeAfter es) ≡ b
+        → (timerIn (modeAfter es) && not (frontAfter levels es .timer .output)) ≡ (timerIn (modeAfter es) && not (outputShown chip levels es))
+    go true h = rw (h, shown-output levels es h)
+    go false h = rw h
 
 sets-law : (levels byte : ℕ) (es : List Event) → hasBit (shows chip levels (andThen es (Write 4 byte)) 5) 3 ≡ hasBit (shows chip levels es 5) 3
 unfolding pick

@@ -253,7 +253,7 @@ timer side ch levels mode es fs load e c s h =
     ∙ rw (preload-told levels es)
     (rw chosen at
     (event-toggles (since mode levels es load fs) (t .preload) levels (es ++ load ∷ fs) e (ap timerIn chosen ∙ h) low
-    (timer-since mode _ _ _ went h low)))
+    (timer-since mode _ _ _ _ went h low)))
   where
     f : Front
     f = frontAfter levels (es ++ load ∷ fs)

@@ -253,9 +253,18 @@ case10 =
 abbrev pub case11 : List Row
 case11 = shows (timing ++ replicate 4 Tick) (Read 5) byte 8 ∷ shows (timing ++ replicate 3 Tick) (Read 5) byte 0 ∷ []
 
+-- order 4: "as case 11 but three ticks, clear the bit with stop, then start: the bit is set."; a second start finds the
+-- output high, and leaves the bit cleared
+abbrev pub case11low : List Row
+case11low =
+    let low : List Event = timing ++ replicate 3 Tick ++ Read 15 ∷ [] in
+    shows low (Read 5) byte 0 ∷ shows (low ++ Read 14 ∷ []) (Read 5) byte 8
+    ∷ shows (low ++ Read 14 ∷ Read 15 ∷ Read 14 ∷ []) (Read 5) byte 0 ∷ []
+
 abbrev pub table : List Row
 table =
-    (case1 ++ case2 ++ case3 ++ case4) ++ case4sent ++ (case5 ++ case6) ++ case7 ++ case7looped ++ (case8 ++ case9 ++ case10 ++ case11)
+    (case1 ++ case2 ++ case3 ++ case4) ++ case4sent ++ (case5 ++ case6) ++ case7 ++ case7looped
+    ++ (case8 ++ case9 ++ case10 ++ case11 ++ case11low)
 
 -- all hold
 abbrev pub Cases : Chip → Request → Type 0

@@ -121,6 +121,10 @@ pub record Loaded (mode : ℕ) (es : List Event) (load : Event) (fs : List Event
   pub preload : preloadAfter es < 65536
   pub left : eachOf leavesCounter fs ≡ true
 
+-- "OPCR 3-2 = 01 puts the timer output on OP3": its level there, were OPCR written so now
+abbrev pub outputShown : Chip → ℕ → List Event → Bool
+outputShown c levels es = hasBit (linesAfter c levels (andThen es (Write 13 4)) .op) 3
+
 -- the count as registers 6 and 7 show it
 abbrev pub countShown : Chip → ℕ → List Event → ℕ
 countShown c levels es = shows c levels es 6 * 256 + shows c levels es 7
@@ -143,10 +147,12 @@ pub record Counter (c : Chip) : Type 0 where
   pub reloads : (levels mode : ℕ) (es fs : List Event) (load : Event) → Loaded mode es load fs → timerIn mode ≡ true
       → countShown c levels (es ++ load ∷ fs)
       ≡ (pulsesOf (preloadAfter es) - since mode levels es load fs % pulsesOf (preloadAfter es)) % 65536
-  -- "a toggle to high sets ISR bit 3; start reloads and drives the output high, setting no bit"
+  -- "start reloads and drives the output high"; "a toggle to high sets ISR bit 3": as the load left it, or the second
+  -- countdown has ended since
   pub toggles : (levels mode : ℕ) (es fs : List Event) (load : Event) → Loaded mode es load fs → timerIn mode ≡ true
       → hasBit (shows c levels (es ++ load ∷ fs) 5) 3
-      ≡ (hasBit (shows c levels es 5) 3 || leb (2 * pulsesOf (preloadAfter es)) (since mode levels es load fs))
+      ≡ (hasBit (shows c levels (andThen es load) 5) 3
+      || leb (2 * pulsesOf (preloadAfter es)) (since mode levels es load fs))
   -- "OPCR 3-2 = 01 puts the timer output on OP3"
   pub output : (levels mode : ℕ) (es fs : List Event) (load : Event) → Loaded mode es load fs → timerIn mode ≡ true
       → eqb (over opcrThen 0 (es ++ load ∷ fs) / 4 % 4) 1 ≡ true
@@ -160,10 +166,12 @@ pub record Counter (c : Chip) : Type 0 where
       → (countShown c levels (es ++ Read 15 ∷ fs) ≡ countShown c levels (es ++ fs))
       × (eqb (over opcrThen 0 (es ++ fs) / 4 % 4) 1 ≡ true
       → hasBit (linesAfter c levels (es ++ Read 15 ∷ fs) .op) 3 ≡ hasBit (linesAfter c levels (es ++ fs) .op) 3)
-  -- "start reloads .., setting no bit"; "A change of ACR 6-4 reloads, .. setting no bit": nor do they clear it, nor
-  -- does any write of ACR
+  -- order 4: "a start that takes the output from low to high does set ISR bit 3": in a timer mode; else a start neither
+  -- sets nor clears it
   pub starts : (levels : ℕ) (es : List Event)
-      → hasBit (shows c levels (andThen es (Read 14)) 5) 3 ≡ hasBit (shows c levels es 5) 3
+      → hasBit (shows c levels (andThen es (Read 14)) 5) 3
+      ≡ (hasBit (shows c levels es 5) 3 || (timerIn (modeAfter es) && not (outputShown c levels es)))
+  -- "A change of ACR 6-4 reloads, .. setting no bit": nor does it clear it, nor does any write of ACR
   pub sets : (levels byte : ℕ) (es : List Event)
       → hasBit (shows c levels (andThen es (Write 4 byte)) 5) 3 ≡ hasBit (shows c levels es 5) 3
   -- a write of ACR that leaves bits 6-4, or of a preload, leaves the count

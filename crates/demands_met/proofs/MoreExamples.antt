@@ -17,7 +17,7 @@ use Rattle.demands.specs.Chip.Channel.{A}
 use Rattle.demands.specs.Told.{levelsAfter, programmed}
 use Rattle.demands.specs.Clocks.{pulsedAfter, oneAfter}
 use Rattle.demands.specs.Registers.{modeAfter}
-use Rattle.demands.specs.Counter.{countShown}
+use Rattle.demands.specs.Counter.{outputShown, countShown}
 use Rattle.demands.specs.Counted.{timerThen, timerFrom, timerAfter}
 use Rattle.demands.specs.Pulses.{clocks, codeAfter, sentSince, sentAfter}
 use Rattle.demands.specs.Sending.{inputsAt, inputsFrom, senderAfter}
@@ -56,6 +56,10 @@ pub record Left : Type 0 where
   -- the bit is set, and stays: at a start, and at a write of ACR to another mode
   pub set : hasBit (shows chip 255 rung 5) 3 ≡ true
   pub starts : hasBit (shows chip 255 (andThen rung (Read 14)) 5) 3 ≡ true
+  -- order 4: a timer that has turned low, its bit not set: a start sets it; started again, with its bit cleared, it does not
+  pub low : (outputShown chip 255 (turned 2) ≡ false) × (hasBit (shows chip 255 (turned 2) 5) 3 ≡ false)
+  pub rises : hasBit (shows chip 255 (andThen (turned 2) (Read 14)) 5) 3 ≡ true
+  pub high : hasBit (shows chip 255 (turned 2 ++ Read 14 ∷ Read 15 ∷ Read 14 ∷ []) 5) 3 ≡ false
   pub changes : hasBit (shows chip 255 (andThen rung (Write 4 96)) 5) 3 ≡ true
   -- a write of ACR that leaves the mode, and of a preload: the count of 0 stays
   pub same : eqb (modeAfter rung) (176 / 16 % 8) ≡ true
@@ -107,7 +111,7 @@ pub more-examples : MoreExamples
 unfolding computing timerThen timerFrom sentSince inputsAt inputsFrom
 more-examples =
     record {
-      left = record { set = refl; starts = refl; changes = refl; same = refl; kept = (refl, refl) };
+      left = record { set = refl; starts = refl; low = (refl, refl); rises = refl; high = refl; changes = refl; same = refl; kept = (refl, refl) };
       turned = record { code = refl; mode = refl; low = refl; high = refl; pulse = refl };
       oneClock = record { sixteen = refl; sent = refl; at-16 = refl; at-15 = refl; each = refl; first = refl };
       waited = record {

@@ -11,12 +11,13 @@ use Rattle.format.specs.Digits.{bit}
 use Rattle.request.specs.declared.request.FrameAnswer.{FrameAnswer}
 use Rattle.receiver.proofs.Wrong.{dropsArriving, keepsWaiting}
 use Rattle.chip_laws.specs.Lists.{Seen}
-use Rattle.demands.specs.Chip.{Chip}
+use Rattle.demands.specs.Chip.{Chip, chipOf}
 use Rattle.demands.specs.Demand1.{Request}
-use Rattle.demands.specs.Cases.{Row, holds, allHold, heard, case1, case2, case3, case4sent, case5, case6, case7, case8, case9, case10, case11, sum}
+use Rattle.demands.specs.Cases.{Row, holds, allHold, heard, case1, case2, case3, case4sent, case5, case6, case7, case8, case9, case10, case11, case11low, sum}
 use Rattle.demands.specs.Cases.{table}
 use Rattle.demands_shut_out.proofs.Chips.{constant, refusesAll, doesNothing, idlesLater, chipWith, startsUnseen, neverTerminal, neverSends}
 use Rattle.demands_shut_out.proofs.Chips.{showsBits, sameFrame, oneMore, neverOdd, eightBits}
+use Rattle.demands_shut_out.proofs.Counter.{startNeverSets, startAlwaysSets}
 use Rattle.demands.proofs.Computing.{computing}
 
 -- ---- each computed ----
@@ -51,6 +52,9 @@ pub record WrongCases : Type 0 where
   -- "ISR bit 3 after 48 ticks", "after 4 ticks"
   pub no-neverTerminal : (r : Request) → Fails neverTerminal r case10
   pub no-neverTerminal-timer : (r : Request) → Fails neverTerminal r case11
+  -- order 4: "clear the bit with stop, then start: the bit is set."
+  pub no-startNeverSets : (r : Request) → Fails (chipOf startNeverSets) r case11low
+  pub no-startAlwaysSets : (r : Request) → Fails (chipOf startAlwaysSets) r case11low
 
 pub wrong-cases : WrongCases
 unfolding computing holds allHold heard dropsArriving keepsWaiting
@@ -69,6 +73,8 @@ wrong-cases =
       no-startsUnseen = λ r. refl;
       no-neverTerminal = λ r. refl;
       no-neverTerminal-timer = λ r. refl;
+      no-startNeverSets = λ r. refl;
+      no-startAlwaysSets = λ r. refl;
     }
 
 -- ---- one answer for all ----

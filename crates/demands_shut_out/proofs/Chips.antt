@@ -14,11 +14,12 @@ use Rattle.receiver.specs.Receiver.{fedOf}
 use Rattle.receiver.specs.Delivery as Receivers
 use Rattle.feed.specs.declared.feed.Enabling.the-variants.{Stays, Enables, Disables}
 use Rattle.receiver_state.specs.Arrivals.{withSampler, freshReceiver}
+use Rattle.transmitter_state.specs.declared.state.Transmitter.{Transmitter}
 use Rattle.front.specs.declared.front.Front.{Front}
 use Rattle.front.specs.declared.front.Handed.{Handed}
 use Rattle.front.specs.Front.{withSides, withRegisters}
 use Rattle.front_side.specs.declared.side.Side.{Side}
-use Rattle.front_side.specs.Side.{withModes}
+use Rattle.front_side.specs.Side.{withModes, withTransmitter}
 use Rattle.events.specs.declared.events.Event.{Event}
 use Rattle.events.specs.declared.events.Event.the-variants.{ChipReset, Read, Write, Acknowledge, Pins, Tick}
 use Rattle.front_events.specs.FrontEvents.{frontStepped}
@@ -55,6 +56,10 @@ isClock = which false (λ n. false) false false true true
 
 abbrev pub withFront : Device → Front → Device
 withFront d f = record { front = f; a = d .a; b = d .b }
+
+-- another transmitter of channel A
+abbrev pub withSender : Device → Transmitter → Device
+withSender d t = withFront d (withSides (d .front) (withTransmitter (d .front .a) t) (d .front .b) (d .front .timer))
 
 -- another MR2 of channel A
 abbrev pub withMode2 : ℕ → Device → Device

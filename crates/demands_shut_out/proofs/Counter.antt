@@ -17,10 +17,13 @@ use Rattle.events.specs.declared.events.Event.the-variants.{ChipReset, Read, Wr
 use Rattle.chip_device.specs.declared.device.Device.{Device}
 use Rattle.chip_laws.specs.Table.{Step}
 use Rattle.chip_laws.proofs.Wrong.{isReset, isReadOf}
+use Rattle.chip_step.specs.Chip.{stepOf}
 use Rattle.demands.specs.Chip.{chipOf}
+use Rattle.demands.specs.Chip.Channel.{A}
 use Rattle.demands.specs.Counter.{Loaded, Counter}
 use Rattle.demands.specs.Counted.{timerThen, timerFrom, Counted}
-use Rattle.demands_shut_out.proofs.Chips.{isWriteOf, isClock, withFront, neverTerminal, countsNothing, leadsTo, stopsNothing}
+use Rattle.demands.specs.Sending.{inputsAt, inputsFrom, echoThen, echoFrom, Transmits}
+use Rattle.demands_shut_out.proofs.Chips.{isWriteOf, isClock, withFront, withSender, neverTerminal, countsNothing, leadsTo, stopsNothing}
 use Rattle.demands.proofs.Computing.{computing}
 
 -- ---- more that are wrong ----
@@ -62,9 +65,34 @@ stopHalts =
     (pick (isClock e && not (timerOf d .running)) (timerInstead x (withPhases (timerOf d) (timerOf x .ticks) (timerOf x .edges))) x)))
     x)
 
--- "start reloads .., setting no bit": it clears the bit, and so does a write of ACR
+-- "A change of ACR 6-4 reloads, drives the output high, setting no bit": it clears the bit, and so does a start
 abbrev startClears : Step
 startClears = leadsTo (λ d e x. pick (isReadOf 14 e || isWriteOf 4 e) (timerInstead x (withReady (timerOf x) false)) x)
+
+-- order 4: "a start that takes the output from low to high does set ISR bit 3": no start does; every start of a timer does; every start of a counter
+-- does; a write of ACR does too
+abbrev pub startNeverSets : Step
+startNeverSets = leadsTo (λ d e x. pick (isReadOf 14 e) (timerInstead x (withReady (timerOf x) (timerOf d .ready))) x)
+
+abbrev pub startAlwaysSets : Step
+startAlwaysSets =
+    leadsTo (λ d e x. pick (isReadOf 14 e && isTimer (modeIn d)) (timerInstead x (withReady (timerOf x) true)) x)
+
+abbrev counterStartSets : Step
+counterStartSets =
+    leadsTo (λ d e x. pick (isReadOf 14 e && not (isTimer (modeIn d))) (timerInstead x (withReady (timerOf x) true)) x)
+
+abbrev changeSets : Step
+changeSets =
+    leadsTo (λ d e x. pick (isWriteOf 4 e && not (timerOf d .output)) (timerInstead x (withReady (timerOf x) true)) x)
+
+-- "(a start or a change of ACR gives no pulse)": a start that takes the output from low to high clocks transmitter A, as the toggle to high does
+abbrev startPulses : Step
+startPulses =
+    leadsTo
+    (λ d e x. pick (isReadOf 14 e && not (timerOf d .output))
+    (withSender x (stepOf (timerInstead d (withCount (timerOf d) 1 false)) Tick .state .front .a .transmitter))
+    x)
 
 -- "A change of ACR 6-4 reloads": so does any write of ACR
 abbrev writeReloads : Step
@@ -78,6 +106,17 @@ preloaded mode = Write 4 (16 * mode) ∷ Write 6 0 ∷ Write 7 1 ∷ []
 
 abbrev sixteen : List Event
 sixteen = replicate 16 Tick
+
+-- a timer on ticks, preload 1, started, and a tick: its output is low; and another: it is high, and the bit is set
+abbrev lowered : List Event
+lowered = preloaded 6 ++ Read 14 ∷ Tick ∷ []
+
+abbrev raised : List Event
+raised = lowered ++ Tick ∷ []
+
+-- the same, with transmitter A on code 13 and 85 to send
+abbrev waits : List Event
+waits = Write 0 19 ∷ Write 0 7 ∷ Write 1 221 ∷ lowered ++ Write 2 4 ∷ Write 3 85 ∷ []
 
 -- IP2 falls and rises
 abbrev rises : List Event
@@ -109,6 +148,13 @@ pub record WrongCounter : Type 0 where
   -- the bit at a start, and at a write of ACR; the count at one that leaves bits 6-4, and at a write of a preload
   pub no-startClears : Counter (chipOf startClears) → ⊥
   pub no-startClears-change : Counter (chipOf startClears) → ⊥
+  -- order 4: the bit at a start, of a timer that is high, and low, and of a counter; at a change of mode; and no pulse of code 13
+  pub no-startClears-timer : Counter (chipOf startClears) → ⊥
+  pub no-startNeverSets : Counter (chipOf startNeverSets) → ⊥
+  pub no-startAlwaysSets : Counter (chipOf startAlwaysSets) → ⊥
+  pub no-counterStartSets : Counter (chipOf counterStartSets) → ⊥
+  pub no-changeSets : Counter (chipOf changeSets) → ⊥
+  pub no-startPulses : Transmits (chipOf startPulses) → ⊥
   pub no-writeReloads : Counter (chipOf writeReloads) → ⊥
   pub no-preloadCounts-count : Counter (chipOf preloadCounts) → ⊥
   -- the count of a timer, after a change to a counter mode, and after a stop of a counter and of a timer
@@ -126,7 +172,7 @@ pub record WrongCounter : Type 0 where
   pub no-stopHalts : Counted (chipOf stopHalts) → ⊥
 
 pub wrong-counter : WrongCounter
-unfolding computing timerThen timerFrom
+unfolding computing timerThen timerFrom inputsAt inputsFrom echoThen echoFrom
 wrong-counter =
     record {
       no-countsNothing = λ h. eqb-false 0 1 refl (h .count 255 3 (preloaded 3) [] counter refl);
@@ -135,6 +181,12 @@ wrong-counter =
       no-stopsNothing = λ h. true≢false (h .clears 255 (preloaded 3 ++ Read 14 ∷ sixteen));
       no-startClears = λ h. true≢false (sym (h .starts 255 (preloaded 3 ++ Read 14 ∷ sixteen)));
       no-startClears-change = λ h. true≢false (sym (h .sets 255 96 (preloaded 3 ++ Read 14 ∷ sixteen)));
+      no-startClears-timer = λ h. true≢false (sym (h .starts 255 raised));
+      no-startNeverSets = λ h. true≢false (sym (h .starts 255 lowered));
+      no-startAlwaysSets = λ h. true≢false (h .starts 255 (preloaded 6));
+      no-counterStartSets = λ h. true≢false (h .starts 255 (preloaded 3));
+      no-changeSets = λ h. true≢false (h .sets 255 48 lowered);
+      no-startPulses = λ h. true≢false (sym (h .line 255 A (waits ++ Read 14 ∷ [])));
       no-writeReloads = λ h. eqb-false 5 0 refl (h .kept 255 0 (Write 7 5 ∷ []) refl);
       no-preloadCounts-count = λ h. eqb-false 5 0 refl (h .preloads 255 5 [] .1);
       no-countsNothing-reloads = λ h. eqb-false 0 1 refl (h .reloads 255 6 (preloaded 6) [] (Read 14) loaded refl);

@@ -15,7 +15,7 @@ use Rattle.receiver_state.specs.declared.arrivals.Receiver.{Receiver}
 use Rattle.transmitter_state.specs.declared.state.Transmitter.{Transmitter}
 use Rattle.transmitter.specs.declared.transmitter.Input.the-variants.{ModeChange}
 use Rattle.transmitter.specs.Transmitter.{afterInput}
-use Rattle.front_side.specs.Side.{withTransmitter, withEcho}
+use Rattle.front_side.specs.Side.{withEcho}
 use Rattle.front.specs.Front.{withSides}
 use Rattle.events.specs.declared.events.Event.{Event}
 use Rattle.events.specs.declared.events.Event.the-variants.{Write, Pins}
@@ -38,7 +38,7 @@ use Rattle.demands.specs.Loops.{Apart, Loops}
 use Rattle.demands.specs.Echoing.{Echoing}
 use Rattle.demands.specs.Cases.{heard, holds, allHold, pulsed, case7looped}
 use Rattle.demands.proofs.Computing.{computing}
-use Rattle.demands_shut_out.proofs.Chips.{chipWith, resetGoesOn, isWriteOf, isClock, withFront, withMode2, leadsTo, shownBy, falls}
+use Rattle.demands_shut_out.proofs.Chips.{chipWith, resetGoesOn, isWriteOf, isClock, withFront, withSender, withMode2, leadsTo, shownBy, falls}
 use Rattle.demands_shut_out.proofs.Delivery.{due, had, differs, line}
 
 -- ---- what is wrong ----
@@ -49,9 +49,6 @@ modeA d = d .front .a .mr2 / 64 % 4
 
 abbrev echoesA : Device → Bool
 echoesA d = eqb (modeA d) 1 || eqb (modeA d) 3
-
-abbrev withSender : Device → Transmitter → Device
-withSender d t = withFront d (withSides (d .front) (withTransmitter (d .front .a) t) (d .front .b) (d .front .timer))
 
 -- what a tick or a pin event makes of A in another mode
 abbrev foundIn : ℕ → Device → Event → Device

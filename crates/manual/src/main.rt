@@ -5,6 +5,7 @@
 mod bench;
 mod break_change;
 mod command_table;
+mod counter_ready;
 mod inch_outch;
 mod initialization;
 mod loopback;
@@ -24,5 +25,6 @@ fn main() {
     inch_outch::examples();
     loopback::examples();
     break_change::examples();
+    counter_ready::examples();
     stops::examples();
 }

@@ -79,10 +79,10 @@ down-ready t mode preload m h d =
     let e : countedDown (t .count) ≡ gone preload (suc m) = omega arith in
     rw (counter-pulse t mode h (d .running), e)
 
--- a start leaves the bit
-started-ready : (t : Timer) (mode : ℕ) → startedOf t mode .ready ≡ t .ready
-unfolding startedOf
-started-ready t mode = pick-all (λ (x : Timer). x .ready ≡ t .ready) (isTimer mode) _ _ refl refl
+-- a start of a counter leaves the bit
+counter-started : (t : Timer) (mode : ℕ) → isTimer mode ≡ false → startedOf t mode .ready ≡ t .ready
+unfolding startedOf pick
+counter-started t mode h = rw h
 
 -- a halted counter takes no pulse
 halted : (t : Timer) (mode : ℕ) → isTimer mode ≡ false → t .running ≡ false → pulsedBy t mode true ≡ record { timer = t; toggled = false }
@@ -101,7 +101,7 @@ counter-ready : (t : Timer) (mode m : ℕ) → isTimer mode ≡ false → t .pre
 unfolding afterPulses
 counter-ready t mode zero h l =
     let s = stands (t .preload) l .some in
-    rw (lt-leb (pulsesOf (t .preload)) 0 s, or-false) (started-ready t mode)
+    rw (lt-leb (pulsesOf (t .preload)) 0 s, or-false) (counter-started t mode h)
 counter-ready t mode (suc m) h l =
     down-ready (afterPulses pulsedBy mode (startedOf t mode) m) mode (t .preload) m h (counter-after t mode m h l)
     ∙ ap (λ (x : Bool). x || eqb (gone (t .preload) (suc m)) 0) (counter-ready t mode m h l)
@@ -187,18 +187,23 @@ pulse-ready t mode h =
     rw (timer-pulse t mode h)
     (pick-all (λ (c : Counted). c .timer .ready ≡ (t .ready || c .toggled)) (eqb (countedDown (t .count)) 0) _ _ refl (sym (or-false (t .ready))))
 
+-- a start of a timer sets it where the output was low
+timer-started : (t : Timer) (mode : ℕ) → isTimer mode ≡ true → startedOf t mode .ready ≡ (t .ready || not (t .output))
+unfolding startedOf pick
+timer-started t mode h = rw h
+
 timer-ready : (t : Timer) (mode m : ℕ) → isTimer mode ≡ true → t .preload < 65536
-    → afterPulses pulsedBy mode (startedOf t mode) m .ready ≡ (t .ready || leb (2 * pulsesOf (t .preload)) m)
+    → afterPulses pulsedBy mode (startedOf t mode) m .ready ≡ ((t .ready || not (t .output)) || leb (2 * pulsesOf (t .preload)) m)
 unfolding afterPulses
 timer-ready t mode zero h l =
     let s = stands (t .preload) l .some in
-    rw (lt-leb (2 * pulsesOf (t .preload)) 0 (omega arith), or-false) (started-ready t mode)
+    rw (lt-leb (2 * pulsesOf (t .preload)) 0 (omega arith), or-false) (timer-started t mode h)
 timer-ready t mode (suc m) h l =
     let s = stands (t .preload) l .some in
     pulse-ready (afterPulses pulsedBy mode (startedOf t mode) m) mode h
     ∙ ap₂ _||_ (timer-ready t mode m h l) (timer-high t mode m h l)
-    ∙ or-assoc (t .ready) (leb (2 * pulsesOf (t .preload)) m) (eqb (suc m % (2 * pulsesOf (t .preload))) 0)
-    ∙ ap (_||_ (t .ready)) (sym (first-whole (2 * pulsesOf (t .preload)) m (omega arith)))
+    ∙ or-assoc (t .ready || not (t .output)) (leb (2 * pulsesOf (t .preload)) m) (eqb (suc m % (2 * pulsesOf (t .preload))) 0)
+    ∙ ap (_||_ (t .ready || not (t .output))) (sym (first-whole (2 * pulsesOf (t .preload)) m (omega arith)))
 
 -- the statement's record and the one of the proof
 turned : (k : ℕ) (t : Timer) → Gone k t → Turned (t .preload) (pulsesOf (t .preload)) k t

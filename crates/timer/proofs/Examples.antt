@@ -1,4 +1,4 @@
--- Cases 10 and 11 of document 01, the eight modes with each clock that 01 names, and one case of each change of mode: each is computed. Assumes
+-- Cases 10 and 11 of document 01 and order 4's, the eight modes with each clock that 01 names, and one case of each change of mode: each is computed. Assumes
 -- nothing.
 use Prim.Native.Nat.{ℕ, zero, suc}
 use mathlib.Core.Path.{_≡_, refl}
@@ -8,7 +8,7 @@ use Rattle.format.specs.Pick.{pick}
 use Rattle.dividers.specs.Divider.{dividedOf, sixteenthOf}
 use Rattle.timer_state.specs.declared.counting.Timer.{Timer}
 use Rattle.timer_state.specs.Counting.{counterPulsed, timerPulsed, pulsedBy}
-use Rattle.timer.specs.Timer.{tickedBy, edgedBy, transmittedBy, startedOf, modeChanged}
+use Rattle.timer.specs.Timer.{tickedBy, edgedBy, transmittedBy, startedOf, stoppedOf, modeChanged}
 
 -- as after a chip reset, but with a preload
 abbrev pub loaded : ℕ → Timer
@@ -108,6 +108,12 @@ case-10 = (refl, refl)
 case-11 : (ticked 6 3 (started 6 2) .ready ≡ false) × (ticked 6 4 (started 6 2) .ready ≡ true)
 unfolding many tickedBy pulsedBy timerPulsed startedOf dividedOf pick
 case-11 = (refl, refl)
+
+-- order 4: "as case 11 but three ticks, clear the bit with stop, then start: the bit is set.": not before that start
+case-11-low :
+    let t : Timer = stoppedOf (ticked 6 3 (started 6 2)) 6 in (t .ready ≡ false) × (seen (startedOf t 6) ≡ (2, true, true))
+unfolding many tickedBy pulsedBy timerPulsed startedOf stoppedOf dividedOf pick
+case-11-low = (refl, refl)
 
 -- a counter on the 1X transmitter clock of A, preload 2: two pulses of A are its end, and those of B are none of its
 transmitter-of-a :

@@ -1,13 +1,13 @@
 -- Wrong answers, each shut out by a definition: a routine that gave it would not meet its contract. Assumes nothing.
 use Prim.Native.Nat.{ℕ}
 use mathlib.Core.Path.{_≡_}
-use mathlib.Core.Bool.{true, false, _||_, true≢false, false≢true}
+use mathlib.Core.Bool.{true, false, not, _||_, true≢false, false≢true}
 use native.Mathlib.Omega.{arith}
 use lib.Dec.{eqb}
 use Rattle.format.specs.Pick.{pick}
 use Rattle.timer_state.specs.declared.counting.Timer.{Timer}
 use Rattle.dividers.proofs.Laws.Divider.{ticksOf}
-use Rattle.timer_state.specs.Counting.{freshTimer, withPreload, withCount, withRunning, modeOf, isTimer}
+use Rattle.timer_state.specs.Counting.{freshTimer, withPreload, withCount, withRunning, withReady, modeOf, isTimer}
 use Rattle.timer.specs.Timer.{startedOf, stoppedOf, modeChanged}
 use Rattle.timer.specs.Passing.{sixteenthsRoom, runningRoom, timerRoom, pulsesIn, countedBy, timerPassed}
 
@@ -15,10 +15,39 @@ use Rattle.timer.specs.Passing.{sixteenthsRoom, runningRoom, timerRoom, 
 abbrev running : Timer
 running = withRunning (withPreload freshTimer 1) true
 
--- "start reloads and drives the output high, setting no bit"
+-- a timer whose output is low
+abbrev low : Timer
+low = withCount freshTimer 1 false
+
+-- "Counter: start loads the preload and runs"
+no-counterNotStarted : ((t : Timer) (mode : ℕ) → t .running ≡ startedOf t mode .running) → ⊥
+unfolding startedOf pick
+no-counterNotStarted h = false≢true (h freshTimer 0)
+
+-- order 4: "a start that takes the output from low to high does set ISR bit 3": one that sets it whatever the output
+-- was, one that never does, one that does in a counter mode, one that clears it where it does not set it
 no-startSetsBit3 : ((t : Timer) (mode : ℕ) → pick (isTimer mode) true (t .ready) ≡ startedOf t mode .ready) → ⊥
 unfolding startedOf pick
 no-startSetsBit3 h = true≢false (h freshTimer 4)
+
+no-startNeverSets : ((t : Timer) (mode : ℕ) → t .ready ≡ startedOf t mode .ready) → ⊥
+unfolding startedOf pick
+no-startNeverSets h = false≢true (h low 4)
+
+no-counterStartSets : ((t : Timer) (mode : ℕ) → (t .ready || not (t .output)) ≡ startedOf t mode .ready) → ⊥
+unfolding startedOf pick
+no-counterStartSets h = true≢false (h low 0)
+
+no-startClearsBit3 :
+    ((t : Timer) (mode : ℕ) → pick (isTimer mode) (not (t .output)) (t .ready) ≡ startedOf t mode .ready) → ⊥
+unfolding startedOf pick
+no-startClearsBit3 h = false≢true (h (withReady freshTimer true) 4)
+
+-- "A change of ACR 6-4 reloads, drives the output high, setting no bit"
+no-changeSetsBit3 :
+    ((t : Timer) (before after : ℕ) → (t .ready || not (t .output)) ≡ modeChanged t before after .ready) → ⊥
+unfolding modeChanged pick
+no-changeSetsBit3 h = true≢false (h low 0 64)
 
 -- "Timer: .. stop clears the bit only"
 no-stopHaltsTimer : ((t : Timer) (mode : ℕ) → false ≡ stoppedOf t mode .running) → ⊥

@@ -1,5 +1,5 @@
 -- The statements on the counter/timer shut wrong ones out. Each is ours but for one fault, and each is refuted by computing a few pulses:
--- `Counts` is false of four, `Toggles` of six, `Leaves` of one, `Obeys` of six, `Sources` of three, `AlwaysRuns` of two. Assumes nothing.
+-- `Counts` is false of five, `Toggles` of eight, `Leaves` of one, `Obeys` of seven, `Sources` of three, `AlwaysRuns` of two. Assumes nothing.
 use Prim.Native.Nat.{ℕ, _-_}
 use mathlib.Core.Path.{_≡_, refl, sym, ap}
 use mathlib.Core.Bool.{Bool, true, false, true≢false, not, _&&_, _||_}
@@ -118,13 +118,35 @@ pub no-startsLow : Toggles pulsedBy startsLow → ⊥
 unfolding startsLow afterPulses pick
 no-startsLow h = true≢false (sym (h .output (loaded 1) 4 0 refl (omega arith)))
 
--- a start that takes the output from low to high sets the bit
-abbrev setsOnStart : Command
-setsOnStart t mode = withReady (startedOf t mode) (t .ready || (isTimer mode && not (t .output)))
+-- order 4, a start and the bit: it is never set; it is set whatever the output was; it is cleared where it is not set; and it is set in a counter
+-- mode
+abbrev neverSets : Command
+neverSets t mode = withReady (startedOf t mode) (t .ready)
 
-pub no-setsOnStart : Toggles pulsedBy setsOnStart → ⊥
+pub no-neverSets : Toggles pulsedBy neverSets → ⊥
 unfolding startedOf afterPulses pick
-no-setsOnStart h = true≢false (h .ready (withCount (loaded 1) 0 false) 4 0 refl (omega arith))
+no-neverSets h = true≢false (sym (h .ready (withCount (loaded 1) 0 false) 4 0 refl (omega arith)))
+
+abbrev alwaysSets : Command
+alwaysSets t mode = withReady (startedOf t mode) (t .ready || isTimer mode)
+
+pub no-alwaysSets : Toggles pulsedBy alwaysSets → ⊥
+unfolding startedOf afterPulses pick
+no-alwaysSets h = true≢false (h .ready (loaded 1) 4 0 refl (omega arith))
+
+unfoldable pub setsOrClears : Command
+setsOrClears t mode = withReady (startedOf t mode) (pick (isTimer mode) (not (t .output)) (t .ready))
+
+pub no-setsOrClears : Toggles pulsedBy setsOrClears → ⊥
+unfolding setsOrClears startedOf afterPulses pick
+no-setsOrClears h = true≢false (sym (h .ready (withReady (loaded 1) true) 4 0 refl (omega arith)))
+
+abbrev setsAsCounter : Command
+setsAsCounter t mode = withReady (startedOf t mode) (t .ready || not (t .output))
+
+pub no-setsAsCounter : Counts pulsedBy setsAsCounter → ⊥
+unfolding startedOf afterPulses pick
+no-setsAsCounter h = true≢false (h .sets (withCount (loaded 1) 0 false) 0 0 refl (omega arith))
 
 -- a stop keeps the bit
 abbrev keepsBit : Command
@@ -177,6 +199,14 @@ changesNothing t before after = t
 
 pub no-changesNothing : Obeys startedOf stoppedOf changesNothing → ⊥
 no-changesNothing h = true≢false (sym (ap (λ (t : Timer). t .running) (h .changes freshTimer 0 64 refl)))
+
+-- a change of mode that raises the output sets the bit, as a start does
+abbrev changeSets : Timer → ℕ → ℕ → Timer
+changeSets t before after = withReady (modeChanged t before after) (t .ready || not (t .output))
+
+pub no-changeSets : Obeys startedOf stoppedOf changeSets → ⊥
+unfolding modeChanged pick
+no-changeSets h = true≢false (ap (λ (t : Timer). t .ready) (h .changes (withCount freshTimer 0 false) 0 64 refl))
 
 -- every ACR write reloads
 abbrev reloadsAlways : Timer → ℕ → ℕ → Timer

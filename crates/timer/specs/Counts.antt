@@ -2,7 +2,7 @@
 -- one and proved false of others. Assumes nothing.
 use Prim.Native.Nat.{ℕ, zero, suc, _+_, _-_, _*_, _/_, _%_, _<_}
 use mathlib.Core.Path.{_≡_}
-use mathlib.Core.Bool.{Bool, true, false, _&&_, _||_}
+use mathlib.Core.Bool.{Bool, true, false, not, _&&_, _||_}
 use lib.Dec.{eqb, leb}
 use Rattle.format.specs.Pick.{pick}
 use Rattle.timer_state.specs.declared.counting.Counted.{Counted}
@@ -83,11 +83,12 @@ pub record Toggles (p : Pulsing) (start : Command) : Type 0 where
   -- "a toggle to high sets ISR bit 3", and nothing else does
   pub sets : (t : Timer) (mode : ℕ) → timerIn mode ≡ true
       → p t mode true .timer .ready ≡ (t .ready || p t mode true .toggled)
-  -- so after a start the output is high, low, high by runs of n pulses, and the bit is set after two
+  -- so after a start the output is high, low, high by runs of n pulses, and the bit is set after two, or at once where
+  -- the output was low (order 4)
   pub output : (t : Timer) (mode m : ℕ) → timerIn mode ≡ true → t .preload < 65536
       → afterPulses p mode (start t mode) m .output ≡ eqb (m / pulsesOf (t .preload) % 2) 0
   pub ready : (t : Timer) (mode m : ℕ) → timerIn mode ≡ true → t .preload < 65536
-      → afterPulses p mode (start t mode) m .ready ≡ (t .ready || leb (2 * pulsesOf (t .preload)) m)
+      → afterPulses p mode (start t mode) m .ready ≡ ((t .ready || not (t .output)) || leb (2 * pulsesOf (t .preload)) m)
 
 -- ---- a start, a stop, another mode: what each does, and that it does no more ----
 
@@ -96,8 +97,10 @@ pub record Obeys (start stop : Command) (change : Timer → ℕ → ℕ → Time
   pub startsCounter : (t : Timer) (mode : ℕ) → timerIn mode ≡ false
       → start t mode ≡ withRunning (withCount t (t .preload) (t .output)) true
   pub stopsCounter : (t : Timer) (mode : ℕ) → timerIn mode ≡ false → stop t mode ≡ withRunning (withReady t false) false
-  -- "start reloads and drives the output high, setting no bit; stop clears the bit only"
-  pub startsTimer : (t : Timer) (mode : ℕ) → timerIn mode ≡ true → start t mode ≡ withCount t (t .preload) true
+  -- "start reloads and drives the output high"; order 4: "a start that takes the output from low to high does set ISR
+  -- bit 3"; "stop clears the bit only"
+  pub startsTimer : (t : Timer) (mode : ℕ) → timerIn mode ≡ true
+      → start t mode ≡ withReady (withCount t (t .preload) true) (t .ready || not (t .output))
   pub stopsTimer : (t : Timer) (mode : ℕ) → timerIn mode ≡ true → stop t mode ≡ withReady t false
   -- "A change of ACR 6-4 reloads, drives the output high, setting no bit, and runs exactly in timer modes.": any other
   -- write does nothing

@@ -1,7 +1,7 @@
 -- What happens to the counter/timer: a tick, an edge, a 1X transmitter clock; a start, a stop, another mode. Assumes
 -- nothing.
 use Prim.Native.Nat.{ℕ}
-use mathlib.Core.Bool.{Bool, true, false}
+use mathlib.Core.Bool.{Bool, true, false, not, _||_}
 use lib.Dec.{eqb}
 use Rattle.format.specs.Pick.{pick}
 use Rattle.dividers.specs.Divider.{dividedOf, sixteenthOf}
@@ -28,10 +28,17 @@ transmittedBy t mode a b = pulsedBy t mode (transmitterPulses mode a b) .timer
 
 -- ---- start, stop, another mode ----
 
--- "Counter: start loads the preload and runs"; "Timer: .. start reloads and drives the output high, setting no bit"
+-- Order 4: on the MC68681 "a start that takes the output from low to high does set ISR bit 3". Which starts of a timer
+-- set the bit is said here alone.
+abbrev pub startSets : Timer → Bool
+startSets t = not (t .output)
+
+-- "Counter: start loads the preload and runs"; "Timer: .. start reloads and drives the output high", and the bit is set
+-- where it was, or where this start sets it
 unfoldable pub startedOf : Timer → ℕ → Timer
 startedOf t mode =
-    pick (isTimer mode) (withCount t (t .preload) true) (withRunning (withCount t (t .preload) (t .output)) true)
+    pick (isTimer mode) (withReady (withCount t (t .preload) true) (t .ready || startSets t))
+    (withRunning (withCount t (t .preload) (t .output)) true)
 
 -- "Counter: .. stop halts and clears the bit"; "Timer: .. stop clears the bit only"
 unfoldable pub stoppedOf : Timer → ℕ → Timer

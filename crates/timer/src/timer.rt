@@ -44,14 +44,15 @@ pub fn step_by_transmitter(timer: Timer, mode: u8, a: bool, b: bool) -> Timer
     counted.timer
 }
 
-// "Counter: start loads the preload and runs"; "Timer: .. start reloads and drives the output high,
-// setting no bit".
+// "Counter: start loads the preload and runs"; "Timer: .. start reloads and drives the output high"; order 4: one "that
+// takes the output from low to high does set ISR bit 3".
 pub fn start_counter(timer: Timer, mode: u8) -> Timer
     ensures { λ r. ⌜ r ≡ startedOf timer mode ⌝ }
 {
     let mut t = timer;
     t.count = timer.preload;
     if is_timer(mode) {
+        t.ready = timer.ready | !timer.output;
         t.output = true;
         return t;
     }

@@ -11,6 +11,10 @@ impl Script<'_> {
         let keep = self.device().front.acr & 0x8f;
         let acr = keep | (self.draws.small(8) << 4);
         self.write(4, acr)?;
+        // ISR bit 3 alone may interrupt, so that a start that sets it (order 4) shows in IRQ.
+        if self.draws.one_in(3) {
+            self.write(5, 0x08)?;
+        }
         for _ in 0..self.draws.between(1, 4) {
             self.read(14)?;
             self.clock_counter()?;

@@ -69,6 +69,7 @@ impl Coverage {
         self.see_event(before, record, seen);
         self.see_drops(before, record, after);
         self.see_modes(before, record, seen, after);
+        self.see_starts(before, record, seen);
         self.note_if(seen.irq && !self.irq, Sight::IrqAssertions);
         self.irq = seen.irq;
         if matches!(record.kind, PIN_EVENT | TICK) {

@@ -5,6 +5,7 @@ use crate::drawing;
 use crate::generator::Generator;
 use crate::modes;
 use crate::sound;
+use crate::starts;
 use duart::device::Receiver;
 use duart::{Device, Duart, EventRecord, Seen};
 
@@ -33,6 +34,9 @@ pub struct Tally {
     pub mode_changes: u64,
     /// Ticks and pin events with a channel in an echo mode whose transmitter is not idle: no script reaches that.
     pub odd_echoes: u64,
+    /// Starts with the output low and ISR bit 3 not set, of a timer and of a counter: no script reaches the second.
+    pub rises: u64,
+    pub low_counter_starts: u64,
 }
 
 /// A device that was not treated as it should be.
@@ -106,6 +110,8 @@ fn try_event(device: Device, event: EventRecord, tally: &mut Tally) -> Result<()
     tally.stale += u64::from(read && !seen.fresh);
     tally.mode_changes += u64::from(seen.number == 0 && modes::mode_changed(&device, event).is_some());
     tally.odd_echoes += u64::from(seen.number == 0 && is_odd_echo(&device, event));
+    tally.rises += u64::from(seen.number == 0 && starts::rises(&device, event));
+    tally.low_counter_starts += u64::from(seen.number == 0 && starts::is_low_counter_start(&device, event));
     match fault {
         None => Ok(()),
         Some(why) => Err(Box::new(Failure {
@@ -146,7 +152,9 @@ fn fault_when_sound(
     } else if !chip.is_sound() || !sound::is_sound(chip.device()) {
         Some("it was sound, and the new state is not")
     } else {
-        fault_of_fresh(device, event, seen, chip).or_else(|| modes::fault(device, event, seen, chip.device()))
+        fault_of_fresh(device, event, seen, chip)
+            .or_else(|| modes::fault(device, event, seen, chip.device()))
+            .or_else(|| starts::fault(device, event, chip.device()))
     }
 }
 
@@ -251,5 +259,6 @@ mod tests {
         assert!(tally.accepted > 0 && tally.refused > 0);
         assert!(tally.fresh > 0 && tally.stale > 0);
         assert!(tally.mode_changes > 0 && tally.odd_echoes > 0);
+        assert!(tally.rises > 0 && tally.low_counter_starts > 0);
     }
 }

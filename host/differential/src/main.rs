@@ -23,6 +23,7 @@ mod script;
 mod scripts;
 mod sights;
 mod sound;
+mod starts;
 
 use coverage::Coverage;
 use std::process::ExitCode;
@@ -68,12 +69,18 @@ fn run_devices(seed: u64) -> Result<String, ()> {
     println!("{:>10} stale reads of them", tally.stale);
     println!("{:>10} mode changes of them", tally.mode_changes);
     println!("{:>10} ticks and pin events on them, sending in an echo mode", tally.odd_echoes);
+    println!("{:>10} timer starts of them from low", tally.rises);
+    println!("{:>10} counter starts of them, the output low", tally.low_counter_starts);
     if tally.fresh == 0 || tally.stale == 0 {
         println!("no drawn device was read fresh, or none stale");
         return Err(());
     }
     if tally.mode_changes == 0 || tally.odd_echoes == 0 {
         println!("no drawn device changed its mode, or none was sending in an echo mode");
+        return Err(());
+    }
+    if tally.rises == 0 || tally.low_counter_starts == 0 {
+        println!("no drawn timer was started from low, or no counter with the output low");
         return Err(());
     }
     Ok(format!("{DEVICES} devices"))

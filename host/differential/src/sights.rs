@@ -40,6 +40,14 @@ pub enum Sight {
     HighBitsAfterBreaks,
     CounterTerminals,
     TimerTerminals,
+    StartsRising,
+    StartsRisingBitSet,
+    StartsHigh,
+    StartsHighBitSet,
+    StartsRisingOnCode13,
+    StartsAssertingIrq,
+    StartsOfCounter,
+    ModeChangesFromLow,
     NormalAgain,
     NormalToEcho,
     NormalToLocal,
@@ -109,7 +117,7 @@ pub enum Sight {
 }
 
 /// Each sight by its name, in the order of the enum.
-pub const SIGHTS: [(Sight, &str); 103] = [
+pub const SIGHTS: [(Sight, &str); 111] = [
     (Sight::ChipResets, "chip resets"),
     (Sight::Reads, "reads"),
     (Sight::Writes, "writes"),
@@ -147,6 +155,14 @@ pub const SIGHTS: [(Sight, &str); 103] = [
     (Sight::HighBitsAfterBreaks, "high bits after breaks"),
     (Sight::CounterTerminals, "terminal counts, counter"),
     (Sight::TimerTerminals, "terminal counts, timer"),
+    (Sight::StartsRising, "timer starts from low, the bit clear"),
+    (Sight::StartsRisingBitSet, "timer starts from low, the bit set"),
+    (Sight::StartsHigh, "timer starts from high, the bit clear"),
+    (Sight::StartsHighBitSet, "timer starts from high, the bit set"),
+    (Sight::StartsRisingOnCode13, "timer starts from low, code 13 chosen"),
+    (Sight::StartsAssertingIrq, "timer starts that assert IRQ"),
+    (Sight::StartsOfCounter, "counter starts"),
+    (Sight::ModeChangesFromLow, "changes of ACR 6-4, the output low"),
     (Sight::NormalAgain, "normal mode again"),
     (Sight::NormalToEcho, "normal mode to automatic echo"),
     (Sight::NormalToLocal, "normal mode to local loopback"),

@@ -131,12 +131,15 @@ impl CounterTimer {
 
     // ------------------------------------------------------------ registers
 
-    /// Counter: "start loads the preload and runs". Timer: "start reloads and drives the output high,
-    /// setting no bit".
+    /// Counter: "start loads the preload and runs". Timer: "start reloads and drives the output high"; order 4: "on the
+    /// MC68681 a start that takes the output from low to high does set ISR bit 3". It is no pulse of code 13.
     pub fn start(&mut self) {
         self.count = self.preload;
         self.runs = true;
         if self.mode.kind == Kind::Timer {
+            if self.output == Level::Low {
+                self.isr_bit_3 = true;
+            }
             self.output = Level::High;
         }
     }

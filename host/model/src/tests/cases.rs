@@ -144,6 +144,20 @@ fn case_11() {
     assert_eq!(board.ticks_until(100, Board::isr_bit_3), Some(4));
 }
 
+/// Order 4: "as case 11 but three ticks, clear the bit with stop, then start: the bit is set."
+#[test]
+fn case_11_from_low() {
+    let mut board = Board::fresh();
+    board.preload(2);
+    board.write(4, 0x60);
+    board.start_counter();
+    board.ticks(3);
+    board.stop_counter();
+    assert!(!board.isr_bit_3());
+    board.start_counter();
+    assert!(board.isr_bit_3());
+}
+
 /// The frame lister: `UA` gives 0101010101 and 0100000101.
 #[test]
 fn frame_lister() {

@@ -241,3 +241,31 @@ fn start_again() {
     board.ticks(16);
     assert_eq!(board.count(), 4);
 }
+
+/// Order 4: a start sets the bit exactly where it takes a timer's output from low to high, and clears it nowhere. The
+/// count is the preload again, so the next toggle to high comes two whole countdowns later.
+#[test]
+fn a_start_from_low_sets_the_bit() {
+    let mut board = started(TIMER_ON_TICKS, 5);
+    board.write(5, 0x08);
+    board.ticks(7);
+    board.start_counter();
+    assert_eq!((board.isr_bit_3(), board.lines().irq, board.count()), (true, true, 5));
+    board.start_counter();
+    assert!(board.isr_bit_3(), "a start from high does not clear it");
+    board.stop_counter();
+    board.start_counter();
+    assert!(!board.isr_bit_3(), "nor set it");
+    assert_eq!(board.ticks_until(100, Board::isr_bit_3), Some(10));
+}
+
+/// In counter modes a start sets nothing, and a change of ACR 6-4 sets nothing though it raises the output.
+#[test]
+fn no_other_rise_sets_the_bit() {
+    let mut board = started(TIMER_ON_TICKS, 5);
+    board.ticks(7);
+    board.write(4, COUNTER_ON_TICKS_16);
+    assert!(!board.isr_bit_3());
+    board.start_counter();
+    assert!(!board.isr_bit_3());
+}

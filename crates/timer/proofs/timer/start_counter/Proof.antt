@@ -10,7 +10,7 @@ is-timer-requires c κs = search needs
 
 returns : tie.Need-returns
 unfolding startedOf
-returns c = simp (← c .before .is-timer .ensures) (search steps)
+returns c = simp (← c .before .before .before .is-timer .ensures) (search steps)
 
 returns-2 : tie.Need-returns-2
 unfolding startedOf
