@@ -1,7 +1,7 @@
 /*
- * What include/duart.h says of refusals, of the fields of a device and an answer, of the modes, of sound devices and of frame
- * requests, tried on the archive: no compiler holds the header to the proved source. Prints what it saw, and ends with 0 if all was
- * as it should be.
+ * What include/duart.h says of refusals, of the fields of a device and an answer, of the modes, of sound devices, of frame
+ * requests, of polls and of runs, tried on the archive: no compiler holds the header to the proved source. Prints what it saw,
+ * and ends with 0 if all was as it should be.
  */
 #include "duart.h"
 
@@ -112,6 +112,79 @@ static int frames(void)
     return wrong;
 }
 
+/* Refused before any event, ended by a refused one, and done to the end; `many` is a tick and chip resets. */
+static int polls(void)
+{
+    static const duart_event events[4] = {{DUART_WRITE, 12, 0x41}, {DUART_READ, 12, 0}, {DUART_READ, 2, 0}, {DUART_TICK, 0, 0}};
+    static const duart_event many[DUART_MOST_EVENTS + 1] = {{DUART_TICK, 0, 0}};
+    static duart_seen space[DUART_MOST_EVENTS + 1];
+    duart_polled polled;
+    int wrong = 0;
+
+    chip = duart_fresh();
+    memset(space, 1, sizeof space);
+    polled = duart_poll(&chip, events, 4, space, 3);
+    wrong += differs("a poll with three places for four", polled.number, DUART_SPACE_SHORT);
+    wrong += differs("its answers", (unsigned)polled.count, 0);
+    wrong += differs("nothing is written", space[0].data, 1);
+    wrong += differs("IVR is as it was", chip.front.ivr, 15);
+    polled = duart_poll(&chip, events, 4, space, 5);
+    wrong += differs("a poll that a refused read ends", polled.number, DUART_ACCEPTED);
+    wrong += differs("its answers", (unsigned)polled.count, 3);
+    wrong += differs("data of the second", space[1].data, 0x41);
+    wrong += differs("number of the third", space[2].number, DUART_FORBIDDEN_READ);
+    wrong += differs("number of the fourth, not written", space[3].number, 1);
+    wrong += differs("IVR's field", chip.front.ivr, 0x41);
+    polled = duart_poll(&chip, many, DUART_MOST_EVENTS + 1, space, DUART_MOST_EVENTS);
+    wrong += differs("a poll of 4097 with 4096 places", polled.number, DUART_SPACE_SHORT);
+    polled = duart_poll(&chip, many, DUART_MOST_EVENTS + 1, space, DUART_MOST_EVENTS + 1);
+    wrong += differs("with 4097 places", polled.number, DUART_OVER_LIMIT);
+    polled = duart_poll(&chip, many, DUART_MOST_EVENTS, space, DUART_MOST_EVENTS);
+    wrong += differs("a poll of 4096, its answers", (unsigned)polled.count, 4096);
+    polled = duart_poll(&chip, events, 0, space, 0);
+    wrong += differs("an empty poll", polled.number + (unsigned)polled.count, 0);
+    chip.a.queue.count = 200;
+    polled = duart_poll(&chip, events, 4, space, 3);
+    wrong += differs("a poll of an unsound device", polled.number, DUART_UNSOUND);
+    wrong += differs("bytes of its answer", (unsigned)sizeof polled, 16);
+    return wrong;
+}
+
+/* A timer on ticks that asserts IRQ after four of them, with TxDB low and OP0 low. */
+static int runs(void)
+{
+    duart_ran ran;
+    int wrong = 0;
+
+    chip = duart_fresh();
+    event(DUART_WRITE, 7, 2);
+    event(DUART_WRITE, 4, 0x60);
+    event(DUART_WRITE, 5, 0x08);
+    event(DUART_WRITE, 14, 0x01);
+    chip.front.b.transmitter.txd = false;
+    ran = duart_run(&chip, 3);
+    wrong += differs("a run of three ticks", ran.ticks, 3);
+    wrong += differs("irq", ran.irq, 0);
+    ran = duart_run(&chip, DUART_MOST_TICKS);
+    wrong += differs("a run that IRQ ends", ran.number, DUART_ACCEPTED);
+    wrong += differs("its ticks", ran.ticks, 1);
+    wrong += differs("irq", ran.irq, 1);
+    wrong += differs("txda", ran.txda, 1);
+    wrong += differs("txdb", ran.txdb, 0);
+    wrong += differs("op", ran.op, 0xfe);
+    ran = duart_run(&chip, 10);
+    wrong += differs("ticks with IRQ asserted already", ran.ticks, 0);
+    ran = duart_run(&chip, DUART_MOST_TICKS + 1);
+    wrong += differs("a budget over its limit", ran.number, DUART_OVER_LIMIT);
+    wrong += differs("irq, as the device drives it", ran.irq, 1);
+    chip.a.queue.count = 200;
+    ran = duart_run(&chip, DUART_MOST_TICKS + 1);
+    wrong += differs("a run of an unsound device", ran.number, DUART_UNSOUND);
+    wrong += differs("its lines", ran.irq + ran.txda + ran.txdb + ran.op, 0);
+    wrong += differs("bytes of its answer", (unsigned)sizeof ran, 12);
+    return wrong;
+}
+
 int main(void)
 {
     int wrong;
@@ -121,5 +194,7 @@ int main(void)
     wrong += devices();
     wrong += modes();
     wrong += frames();
+    wrong += polls();
+    wrong += runs();
     return wrong == 0 ? 0 : 1;
 }

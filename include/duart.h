@@ -1,15 +1,15 @@
 /*
  * The MC68681 serial chip (DUART), proved: what a board maker links.
  *
- * `rt staticlib duart` writes target/staticlib/libduart.a, which holds the four functions below. Each is proved to
+ * `rt staticlib duart` writes target/staticlib/libduart.a, which holds the six functions below. Each is proved to
  * meet its contract (crates/duart/src/duart.rt) for every argument, so a caller owes no more than this:
  *
  *  - pointers lead to what they say, and are used by no other thread during the call;
  *  - every field of a struct is a value of its type. A bool is 0 or 1 and nothing else: a device that was filled from a file
  *    or from the network byte by byte must have its bools tested first.
  *
- * A device is made by duart_fresh() and altered by duart_step() only. One that was made in another way is still answered: with
- * number 1 where it is unsound (docs/SOUND.md lists the ranges), and it is left as it was.
+ * A device is made by duart_fresh() and altered by duart_step(), duart_poll() and duart_run() only. One that was made in another
+ * way is still answered: with number 1 where it is unsound (docs/SOUND.md lists the ranges), and it is left as it was.
  *
  * Nothing here allocates, blocks, keeps a pointer or holds state of its own: two devices are two chips.
  */
@@ -235,7 +235,8 @@ enum {
                                     4-3 = 11, MR2 bit 5, OPCR bits 1-0 not 00 or bit 3 */
     DUART_NOT_ASSERTED = 6,      /* an acknowledge while IRQ is not asserted */
     DUART_NEW_UNSOUND = 7,       /* the new state would be unsound: proved never to be given */
-    DUART_SPACE_SHORT = 8        /* a frame request's space is shorter than the frame */
+    DUART_SPACE_SHORT = 8,       /* a frame request's space is shorter than the frame, or a poll's than its list */
+    DUART_OVER_LIMIT = 9         /* a poll's list, or a run's budget, is over its limit */
 };
 
 /*
@@ -261,11 +262,59 @@ typedef struct duart_frame_answer {
     uint8_t length;
 } duart_frame_answer;
 
+/* ---- a whole poll at once, and ticks until IRQ ---- */
+
+/* The limits of a poll's list and of a run's budget; both are still allowed. */
+enum {
+    DUART_MOST_EVENTS = 4096,
+    DUART_MOST_TICKS = 1000000
+};
+
+/* A poll's answer: the call's own number, and how many answers were written, 0 if it is refused. */
+typedef struct duart_polled {
+    uint8_t number;
+    size_t count;
+} duart_polled;
+
+/* A run's answer: the number, how many ticks it took, 0 if it is refused, and the lines then (for 1, all lines 0). */
+typedef struct duart_ran {
+    uint8_t number;
+    uint32_t ticks;
+    bool irq; /* asserted */
+    bool txda;
+    bool txdb;
+    uint8_t op; /* bit n is the level of OPn */
+} duart_ran;
+
 /* The state after a chip reset with all pins high. */
 duart_device duart_fresh(void);
 
 /* Takes one event: the device holds the new state then, or is as it was where the number is not 0. */
 duart_seen duart_step(duart_device *device, duart_event event);
+
+/*
+ * Takes the `count` events at `events`, up to DUART_MOST_EVENTS, in one call, "equal to the same events one by one" (order 5), and
+ * writes their answers into the first of the `space` places at `answers`, which may be more. "It ends at the first refused event;
+ * answers up to and including that one are written, later ones stay, the count says how many were written, and the call itself
+ * answers 0." So a poll that went through has a count of `count` and a last answer whose number is 0; the lines stand in the last
+ * answer. An empty list is answered 0 and alters nothing.
+ *
+ * Refused, in this order and before any event: 1 the device is unsound, 8 `space` is below `count` (also where a refused event
+ * would have ended the list within it), 9 the list is over its limit. Then nothing is written, the count is 0 and the device is as
+ * it was. The pointers are not NULL, also where a count is 0; the two lists and the device do not overlap.
+ */
+duart_polled duart_poll(duart_device *device, const duart_event *events, size_t count, duart_seen *answers, size_t space);
+
+/*
+ * "runs ticks until IRQ is asserted or a budget of up to 1,000,000 is spent, and reports how many ticks it took: zero if IRQ is
+ * asserted already, otherwise the number of single ticks to that state" (order 5). Device and lines are as after so many
+ * DUART_TICK, stretches in which nothing happens being passed over. IRQ in the last tick of the budget, or not at all: the ticks
+ * are the budget, and `irq` tells which. A budget of 0 takes no tick.
+ *
+ * Refused, in this order: 1 the device is unsound, 9 the budget is over DUART_MOST_TICKS (also where IRQ is asserted already).
+ * Then the ticks are 0 and the device is as it was. examples/emulator.c is a main loop that goes by it.
+ */
+duart_ran duart_run(duart_device *device, uint32_t budget);
 
 /*
  * Writes the levels of a frame, one byte 0 or 1 for each 16X pulse, at most 192, into the first bytes of the `size` bytes at

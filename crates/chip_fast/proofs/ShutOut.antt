@@ -1,13 +1,14 @@
 -- Wrong answers, each shut out by a definition: a routine that gave it would not meet its contract. Assumes nothing.
 use Prim.Native.Nat.{ℕ}
 use mathlib.Core.Path.{_≡_}
-use mathlib.Core.Bool.{true, true≢false}
+use mathlib.Core.Bool.{Bool, true, true≢false}
 use native.Mathlib.Omega.{arith}
+use Rattle.dividers.specs.Divider.{roomOf}
 use Rattle.dividers.proofs.Laws.Divider.{ticksOf}
 use Rattle.clocks.specs.declared.channel.Phases.{Phases}
 use Rattle.timer_state.specs.Counting.{freshTimer, withCount}
-use Rattle.timer.specs.Passing.{timerPassed}
-use Rattle.clocks.specs.Channel.{sidePassed}
+use Rattle.timer.specs.Passing.{timerRoom, runningRoom, sixteenthsRoom, timerPassed, pulsesIn, countedBy}
+use Rattle.clocks.specs.Channel.{sideRoom, sidePassed}
 use Rattle.front_side.specs.Side.{freshSide, withClocks}
 use Rattle.front.specs.Front.{frontAt, withSides, withRegisters}
 use Rattle.events.specs.declared.events.Event.the-variants.{Tick}
@@ -16,7 +17,7 @@ use Rattle.chip_device.specs.Device.{freshDevice}
 use Rattle.chip_device.proofs.Examples.{fiveFlags}
 use Rattle.chip_step.specs.Chip.{stepOf}
 use Rattle.chip_fast.specs.Passing.{passedOf}
-use Rattle.chip_fast.specs.Fast.{atRest}
+use Rattle.chip_fast.specs.Fast.{atRest, hopOf}
 use Rattle.chip_laws.proofs.Computing.{computing}
 
 -- 4607 ticks after the last pulse
@@ -77,3 +78,48 @@ no-toggleUnseen h = true≢false h
 no-unsoundTicked : 0 ≡ stepOf fiveFlags Tick .number → ⊥
 unfolding computing
 no-unsoundTicked = omega arith
+
+-- ---- a hop ----
+
+-- what a hop is computed by
+unfoldable hopping : Bool
+unfolding computing hopOf passedOf sidePassed sideRoom roomOf timerRoom runningRoom sixteenthsRoom timerPassed pulsesIn
+    countedBy
+hopping = true
+
+-- "Timer on ticks" with 5 to count
+abbrev counting : Device
+counting =
+    record {
+      front = withRegisters (withSides (frontAt 255) freshSide freshSide (withCount freshTimer 5 true)) 96 0 15;
+      a = freshDevice .a;
+      b = freshDevice .b;
+    }
+
+-- two still ticks and one more: the count, ticks/16 and a divider's phase move by three
+no-hopLosesTimer : 5 ≡ hopOf counting (ticksOf 2) .state .front .timer .count → ⊥
+unfolding hopping
+no-hopLosesTimer = omega arith
+
+no-hopLosesSixteenth : 1 ≡ sixteenth (hopOf counting (ticksOf 2) .state) → ⊥
+unfolding hopping
+no-hopLosesSixteenth = omega arith
+
+no-hopLosesPhase : 1 ≡ phaseB (hopOf counting (ticksOf 2) .state) → ⊥
+unfolding hopping
+no-hopLosesPhase = omega arith
+
+-- B's pulse comes with the next tick, and moves its sixteenths
+no-hopLosesSixteenths : 0 ≡ hopOf dueB (ticksOf 2) .state .front .b .phases .sixteenths .0 → ⊥
+unfolding hopping
+no-hopLosesSixteenths = omega arith
+
+-- past the room a pulse would be passed over, and a start with it: there is none for a still tick here
+no-hopsOverPulse : 2 ≡ hopOf dueB (ticksOf 2) .still .0 → ⊥
+unfolding hopping
+no-hopsOverPulse = omega arith
+
+-- nor past what is asked
+no-hopsPastMost : 3 ≡ hopOf counting (ticksOf 2) .still .0 → ⊥
+unfolding hopping
+no-hopsPastMost = omega arith

@@ -11,6 +11,7 @@ use Rattle.front_side.specs.Side.{withClocks}
 use Rattle.front.specs.declared.front.Front.{Front}
 use Rattle.front.specs.Front.{withSides}
 use Rattle.chip_device.specs.declared.device.Device.{Device}
+use Rattle.chip_fast.specs.declared.passing.Counts.{Counts}
 
 -- "CSR bits 7-4 receiver, 3-0 transmitter."; the set is ACR bit 7's
 abbrev pub channelRoom : Side → ℕ → ℕ
@@ -29,6 +30,19 @@ sideOn s ticks = withClocks s (s .csr) (channelPassed (s .phases) (s .csr) ticks
 abbrev pub frontOn : Front → Ticks → Front
 frontOn f ticks =
     withSides f (sideOn (f .a) ticks) (sideOn (f .b) ticks) (timerPassed (f .timer) (modeOf (f .acr)) ticks)
+
+-- what moves, as the code has it
+abbrev pub countsPassed : Front → Ticks → Counts
+countsPassed f ticks =
+    let x : Front = frontOn f ticks in
+    record {
+      rxca = x .a .phases .receiver;
+      txca = x .a .phases .transmitter;
+      rxcb = x .b .phases .receiver;
+      txcb = x .b .phases .transmitter;
+      count = x .timer .count;
+      ticks = x .timer .ticks;
+    }
 
 -- so many ticks later, within the room: the phases and the count move, and nothing else
 unfoldable pub passedOf : Device → Ticks → Device

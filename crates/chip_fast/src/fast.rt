@@ -1,23 +1,24 @@
 // The step, with short ways for a tick: rows 2 to 6 refuse none, and row 7 none of a sound device, so that soundness is asked
 // once and the new state not looked at.
+use crate::passing::front_room;
 use crate::passing::has_room;
+use crate::passing::least;
+use crate::passing::pass_counts;
+use crate::passing::pass_device;
 use chip_answers::no_lines;
 use chip_device::Device;
 use chip_device::device_lines;
 use chip_device::is_sound;
 use chip_step::Answer;
 use chip_step::step;
-use clocks::pass_side;
 use events::Event;
 use format::Ticks;
 use front_clocks::tick_front;
 use receiver::feed_receiver;
-use timer::pass_timer;
-use timer_state::mode_of;
 ghost use mathlib.Core.Path.{_≡_};
 ghost use Rattle.events.specs.declared.events.Event.the-variants.{Acknowledge};
 ghost use Rattle.chip_step.specs.Chip.{refusedOf, stepOf};
-ghost use Rattle.chip_fast.specs.Fast.{isTick, atRest, fullOf, lateAnswer};
+ghost use Rattle.chip_fast.specs.Fast.{isTick, atRest, fullOf, soundTick, soundAnswer, hopOf};
 
 fn is_tick(event: Event) -> bool
     ensures { λ r. ⌜ r ≡ isTick event ⌝ }
@@ -38,11 +39,11 @@ pub fn at_rest(state: Device) -> Answer
     ensures { λ r. ⌜ r ≡ atRest state ⌝ }
 {
     Answer {
+        state: state,
         number: 0,
         byte: 0,
         fresh: false,
         lines: device_lines(state),
-        state: state,
     }
 }
 
@@ -97,54 +98,81 @@ fn acknowledge(device: Device) -> Answer
     answer
 }
 
-// What is not answered in place. It is called at two places, so that it is compiled apart: within them it would cut the
-// device up into its fields.
-fn answer_late(device: Device, event: Event) -> Answer
-    ensures { λ r. ⌜ r ≡ lateAnswer device event ⌝ }
+// Every event but a tick. It and `tick_sound` are called at two places, so that they are compiled apart: within them they
+// would cut the device up into its fields.
+fn answer_other(device: Device, event: Event) -> Answer
+    ensures { λ r. ⌜ r ≡ stepOf device event ⌝ }
 {
-    if is_tick(event) {
-        return at_rest(tick_fully(device));
-    }
     match event {
         Event::Acknowledge => acknowledge(device),
         other => step(device, event),
     }
 }
 
-// One event, one answer: `step`'s. A still tick is answered in place: no line changes, and six fields move by one tick.
-// `look` is what is read and lent, so that of the device itself only these fields are taken out.
-pub fn swift_step(device: Device, event: Event) -> Answer
-    ensures { λ r. ⌜ r ≡ stepOf device event ⌝ }
+// A tick of a device that is known to be sound. A still one is answered in place: no line changes, and six fields move.
+// `look` is what is read and lent, so that of the device itself only these fields are taken out; the answer begins as a
+// refusal, which is the device as it is.
+fn tick_sound(device: Device) -> Answer
+    ensures { λ r. ⌜ r ≡ soundTick device ⌝ }
 {
     let look = device;
     let mut answer = refuse_unsound(device);
-    if is_tick(event) {
-        if is_sound(look) {
-            if has_room(look.front) {
-                let csr_a = look.front.a.csr;
-                let csr_b = look.front.b.csr;
-                let receiver_a = pass_side(device.front.a.phases.receiver, csr_a / 16, Ticks(1));
-                let sender_a = pass_side(device.front.a.phases.transmitter, csr_a % 16, Ticks(1));
-                let receiver_b = pass_side(device.front.b.phases.receiver, csr_b / 16, Ticks(1));
-                let sender_b = pass_side(device.front.b.phases.transmitter, csr_b % 16, Ticks(1));
-                let timer = pass_timer(device.front.timer, mode_of(look.front.acr), Ticks(1));
-                answer.state.front.a.phases.receiver.0 = receiver_a.0;
-                answer.state.front.a.phases.transmitter.0 = sender_a.0;
-                answer.state.front.b.phases.receiver.0 = receiver_b.0;
-                answer.state.front.b.phases.transmitter.0 = sender_b.0;
-                answer.state.front.timer.count = timer.count;
-                answer.state.front.timer.ticks.0 = timer.ticks.0;
-                let lines = device_lines(look);
-                answer.number = 0;
-                answer.lines = lines;
-            } else {
-                let late = answer_late(look, event);
-                answer = late;
-            }
-        }
+    if has_room(look.front) {
+        let counts = pass_counts(look.front, Ticks(1));
+        answer.state.front.a.phases.receiver.0 = counts.rxca.0;
+        answer.state.front.a.phases.transmitter.0 = counts.txca.0;
+        answer.state.front.b.phases.receiver.0 = counts.rxcb.0;
+        answer.state.front.b.phases.transmitter.0 = counts.txcb.0;
+        answer.state.front.timer.count = counts.count;
+        answer.state.front.timer.ticks.0 = counts.ticks.0;
+        let lines = device_lines(look);
+        answer.number = 0;
+        answer.lines = lines;
     } else {
-        let late = answer_late(look, event);
-        answer = late;
+        let full = at_rest(tick_fully(look));
+        answer = full;
     }
     answer
+}
+
+// One event of a device that is known to be sound: who has asked once need not ask again, for every event leaves a sound
+// one.
+pub fn sound_step(sound: Device, event: Event) -> Answer
+    ensures { λ r. ⌜ r ≡ soundAnswer sound event ⌝ }
+{
+    if is_tick(event) {
+        return tick_sound(sound);
+    }
+    answer_other(sound, event)
+}
+
+// One event, one answer: `step`'s.
+pub fn swift_step(device: Device, event: Event) -> Answer
+    ensures { λ r. ⌜ r ≡ stepOf device event ⌝ }
+{
+    if is_tick(event) {
+        if is_sound(device) {
+            return tick_sound(device);
+        }
+        return refuse_unsound(device);
+    }
+    answer_other(device, event)
+}
+
+// So many still ticks, and the device after them and one tick more, of any kind.
+pub struct Hopped {
+    pub still: Ticks,
+    pub state: Device,
+}
+
+// At most so many still ticks, as many as there is room for, and then one of any kind.
+pub fn hop(device: Device, most: Ticks) -> Hopped
+    ensures { λ r. ⌜ r ≡ hopOf device most ⌝ }
+{
+    let still = least(front_room(device.front), most);
+    let state = tick_fully(pass_device(device, still));
+    Hopped {
+        still: still,
+        state: state,
+    }
 }

@@ -3,5 +3,8 @@
 mod fast;
 mod passing;
 
+pub use fast::Hopped;
 pub use fast::at_rest;
+pub use fast::hop;
+pub use fast::sound_step;
 pub use fast::swift_step;

@@ -18,11 +18,11 @@ ghost use Rattle.chip_step.specs.Chip.{takenOf, refusalLines, refusedOf,
 // levels and the new state."; order 1: "The receive buffer read shall also say fresh or stale".
 #[repr(C)]
 pub struct Answer {
+    pub state: Device,
     pub number: u8,
     pub byte: u8,
     pub fresh: bool,
     pub lines: Lines,
-    pub state: Device,
 }
 
 // The new state, before it is looked at, the data byte, and whether it is fresh.

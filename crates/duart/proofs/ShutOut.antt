@@ -13,7 +13,7 @@ use Rattle.chip_device.proofs.Examples.{fiveFlags}
 use Rattle.chip_step.specs.declared.chip.Answer.{Answer}
 use Rattle.chip_step.specs.Chip.{stepOf}
 use Rattle.records.specs.Records.{eventOf}
-use Rattle.duart.specs.Duart.{seenIn}
+use Rattle.poll.specs.Poll.{seenIn}
 use Rattle.chip_laws.proofs.Computing.{computing}
 
 -- the fresh device after a tick, which is a record of kind 5

@@ -1,9 +1,21 @@
--- What of an answer is seen: all but the new state. Assumes nothing.
-use Rattle.chip_step.specs.declared.chip.Answer.{Answer}
-use Rattle.records.specs.declared.records.Seen.{Seen}
-use Rattle.records.specs.Records.{seenOf}
+-- What of a poll's and of a run's answer is seen. Assumes nothing.
+use Rattle.poll.specs.declared.polling.Polled.{Polled}
+use Rattle.chip_ticks.specs.declared.until_irq.Ran.{Ran}
+use Rattle.duart.specs.declared.duart.PolledSeen.{PolledSeen}
+use Rattle.duart.specs.declared.duart.RanSeen.{RanSeen}
 
--- "The answer has the number, the data byte (0 where none is read), IRQ (1 when asserted), TxDA, TxDB, the OP0-OP7
--- levels and the new state."; order 1: "The receive buffer read shall also say fresh or stale"
-abbrev pub seenIn : Answer → Seen
-seenIn a = seenOf (a .number) (a .byte) (a .fresh) (a .lines)
+-- all of it but the last state, which is stored in the device lent
+abbrev pub polledSeen : Polled → PolledSeen
+polledSeen p = record { number = p .number; count = p .count }
+
+-- the number, the ticks and the lines
+abbrev pub ranSeen : Ran → RanSeen
+ranSeen r =
+    record {
+      number = r .number;
+      ticks = r .ticks;
+      irq = r .lines .irq;
+      txda = r .lines .txda;
+      txdb = r .lines .txdb;
+      op = r .lines .op;
+    }

@@ -1,2 +1,2 @@
--- What a reader must believe of the board: what of an answer is seen.
+-- What a reader must believe of the board: what of a poll's and of a run's answer is seen.
 pub mod Duart

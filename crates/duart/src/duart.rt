@@ -4,19 +4,45 @@ use chip_device::fresh;
 use chip_device::is_sound;
 use chip_fast::swift_step;
 use chip_step::Answer;
+use chip_ticks::Ran;
+use chip_ticks::run;
+use poll::Polled;
+use poll::poll;
+use poll::seen_in;
+use poll::state_in;
 use records::EventRecord;
 use records::Seen;
 use records::event_of;
-use records::seen_of;
 use request::FrameAnswer;
 use request::request_frame;
 ghost use mathlib.Core.Path.{_≡_};
 ghost use lib.ListN.{length};
 ghost use Rattle.chip_device.specs.Device.{freshDevice, isSoundOf};
 ghost use Rattle.chip_step.specs.Chip.{stepOf};
+ghost use Rattle.chip_ticks.specs.Run.{runOf};
 ghost use Rattle.records.specs.Records.{eventOf};
 ghost use Rattle.request.specs.Request.{requestOf, spaceAfter};
-ghost use Rattle.duart.specs.Duart.{seenIn};
+ghost use Rattle.poll.specs.Poll.{seenIn, polledOf, answersAfter};
+ghost use Rattle.duart.specs.Duart.{polledSeen, ranSeen};
+
+// order 5: "the count says how many were written, and the call itself answers 0", or why it is refused.
+#[repr(C)]
+pub struct PolledSeen {
+    pub number: u8,
+    pub count: usize,
+}
+
+// order 5: "reports how many ticks it took"; "state and lines equal the single ticks".
+#[repr(C)]
+pub struct RanSeen {
+    pub number: u8,
+    pub ticks: u32,
+    pub irq: bool,
+    pub txda: bool,
+    pub txdb: bool,
+    // bit n is OPn
+    pub op: u8,
+}
 
 // What the step by value answers to a record.
 fn step_record(device: Device, event: EventRecord) -> Answer
@@ -25,18 +51,39 @@ fn step_record(device: Device, event: EventRecord) -> Answer
     swift_step(device, event_of(event))
 }
 
-// A walk moves whole values only, so the parts of an answer are taken here.
-fn state_in(answer: Answer) -> Device
-    ensures { λ r. ⌜ r ≡ answer .state ⌝ }
+// A walk moves whole values only, so the parts of a poll's and of a run's answer are taken here.
+fn state_polled(polled: Polled) -> Device
+    ensures { λ r. ⌜ r ≡ polled .state ⌝ }
 {
-    answer.state
+    polled.state
 }
 
-fn seen_in(answer: Answer) -> Seen
-    ensures { λ r. ⌜ r ≡ seenIn answer ⌝ }
+fn polled_seen(polled: Polled) -> PolledSeen
+    ensures { λ r. ⌜ r ≡ polledSeen polled ⌝ }
 {
-    let lines = answer.lines;
-    seen_of(answer.number, answer.byte, answer.fresh, lines)
+    PolledSeen {
+        number: polled.number,
+        count: polled.count,
+    }
+}
+
+fn state_ran(ran: Ran) -> Device
+    ensures { λ r. ⌜ r ≡ ran .state ⌝ }
+{
+    ran.state
+}
+
+fn ran_seen(ran: Ran) -> RanSeen
+    ensures { λ r. ⌜ r ≡ ranSeen ran ⌝ }
+{
+    RanSeen {
+        number: ran.number,
+        ticks: ran.ticks,
+        irq: ran.lines.irq,
+        txda: ran.lines.txda,
+        txdb: ran.lines.txdb,
+        op: ran.lines.op,
+    }
 }
 
 // "A fresh device is the state after a chip reset with all pins high."
@@ -58,6 +105,38 @@ pub extern "C" fn duart_step(device: &mut Device, event: EventRecord) -> Seen
     let state = state_in(answer);
     *device = state;
     seen_in(answer)
+}
+
+// order 5: "one call over a lent list of event records, up to 4,096, with the answers, less the states, written to a
+// second lent list, equal to the same events one by one"
+#[no_mangle]
+pub extern "C" fn duart_poll(
+    device: &mut Device,
+    events: &[EventRecord],
+    answers: &mut [Seen],
+) -> PolledSeen
+    ensures { λ r. ⌜ (r ≡ polledSeen (polledOf (now (device .entry)) (now (events .entry)) (now (answers .entry))))
+        × (now (device .exit) ≡ polledOf (now (device .entry)) (now (events .entry)) (now (answers .entry)) .state)
+        × (now (answers .exit) ≡ answersAfter (now (device .entry)) (now (events .entry)) (now (answers .entry))) ⌝ }
+{
+    let given = *device;
+    let polled = poll(given, events, answers);
+    let state = state_polled(polled);
+    *device = state;
+    polled_seen(polled)
+}
+
+// order 5: "A companion runs ticks until IRQ is asserted or a budget of up to 1,000,000 is spent"
+#[no_mangle]
+pub extern "C" fn duart_run(device: &mut Device, budget: u32) -> RanSeen
+    ensures { λ r. ⌜ (r ≡ ranSeen (runOf (now (device .entry)) budget))
+        × (now (device .exit) ≡ runOf (now (device .entry)) budget .state) ⌝ }
+{
+    let given = *device;
+    let ran = run(given, budget);
+    let state = state_ran(ran);
+    *device = state;
+    ran_seen(ran)
 }
 
 // "A separate request writes a frame's levels, one byte 0 or 1 per 16X pulse, at most 192, from MR1, MR2 and a byte;

@@ -2,6 +2,10 @@
 
 use std::ptr;
 
+/// Order 5: "up to 4,096".
+pub const MOST_EVENTS: usize = duart::MOST_EVENTS;
+const _: () = assert!(MOST_EVENTS == model::calls::MOST_EVENTS);
+
 /// The names of the two, as `bench run` takes them.
 pub const PROVED: &str = "proved";
 pub const PLAIN: &str = "plain";
@@ -11,6 +15,10 @@ pub trait Chip {
     fn fresh() -> Self;
     /// TxDA, TxDB and the data byte of the answer.
     fn step(&mut self, event: model::Event) -> (bool, bool, u8);
+    /// A poll of so many ticks: the count, and TxDA of the last answer. The list is there before it.
+    fn poll_ticks(&mut self, ticks: usize) -> (usize, bool);
+    /// The ticks of a run with this budget, and IRQ.
+    fn run(&mut self, budget: u32) -> (u32, bool);
 }
 
 /// A value that the compiler knows nothing of: as on a board, the event is not known beforehand and the whole answer is
@@ -30,6 +38,27 @@ impl Chip for model::Chip {
         let seen = unknown(model::Chip::step(self, unknown(event)));
         (seen.txda, seen.txdb, seen.data)
     }
+
+    fn poll_ticks(&mut self, ticks: usize) -> (usize, bool) {
+        const NONE: model::Seen = model::Seen {
+            number: 0,
+            data: 0,
+            fresh: false,
+            irq: false,
+            txda: false,
+            txdb: false,
+            op: 0,
+        };
+        static TICKS: [model::Event; MOST_EVENTS] = [model::Event::Tick; MOST_EVENTS];
+        let mut answers = [NONE; MOST_EVENTS];
+        let polled = self.poll(unknown(&TICKS[..ticks]), &mut answers);
+        (polled.count, unknown(&answers)[ticks - 1].txda)
+    }
+
+    fn run(&mut self, budget: u32) -> (u32, bool) {
+        let ran = unknown(model::Chip::run(self, unknown(budget)));
+        (ran.ticks, ran.irq)
+    }
 }
 
 impl Chip for duart::Duart {
@@ -48,5 +77,22 @@ impl Chip for duart::Duart {
         };
         let seen = duart::Duart::step(self, event);
         (seen.txda, seen.txdb, seen.data)
+    }
+
+    fn poll_ticks(&mut self, ticks: usize) -> (usize, bool) {
+        const TICK: duart::EventRecord = duart::EventRecord {
+            kind: 5,
+            reg: 0,
+            byte: 0,
+        };
+        static TICKS: [duart::EventRecord; MOST_EVENTS] = [TICK; MOST_EVENTS];
+        let mut answers = [duart::Seen::default(); MOST_EVENTS];
+        let polled = self.poll(&TICKS[..ticks], &mut answers);
+        (polled.count, answers[ticks - 1].txda)
+    }
+
+    fn run(&mut self, budget: u32) -> (u32, bool) {
+        let ran = self.run_until_irq(budget);
+        (ran.ticks, ran.irq)
     }
 }

@@ -10,11 +10,6 @@ use std::process::{Command, Stdio};
 /// A count, or why there is none.
 type Count = Result<u64, Box<dyn Error>>;
 
-/// Between the two are 1056 ticks, a frame of 11 bits at 38,400 bits a second, in which a character comes. More of them
-/// say nothing more, and the emulator's log has a line for each instruction.
-pub const FEWER: u32 = 528;
-pub const MORE: u32 = 1584;
-
 /// The emulator that this program runs under, where `host/machine` names one. Valgrind cannot run a program of another
 /// machine's, so there the emulator counts.
 pub fn emulator() -> Option<String> {
@@ -77,22 +72,25 @@ fn instructions(chip: &str, load: Load, ticks: u32) -> Count {
     count
 }
 
-/// The nearest whole number of instructions a tick, where two runs took so many.
-fn each(fewer: u64, more: u64) -> Count {
-    let ticks = u64::from(MORE - FEWER);
+/// The nearest whole number of instructions for so many ticks as a load counts, where two runs took so many.
+fn each(load: Load, fewer: u64, more: u64) -> Count {
+    let [begin, end] = load.spans();
+    let ticks = u64::from(end - begin);
     let between = more.checked_sub(fewer).ok_or("fewer for more ticks")?;
-    Ok((between + ticks / 2) / ticks)
+    Ok((between * load.ticks_counted() + ticks / 2) / ticks)
 }
 
 fn count(chip: &str, load: Load) -> Count {
+    let [fewer, more] = load.spans();
     each(
-        instructions(chip, load, FEWER)?,
-        instructions(chip, load, MORE)?,
+        load,
+        instructions(chip, load, fewer)?,
+        instructions(chip, load, more)?,
     )
 }
 
-/// Instructions a tick of a chip under a load, or the line that says why they are not counted here.
-pub fn a_tick(chip: &str, load: Load) -> Result<u64, String> {
+/// Instructions of a chip under a load, in the load's unit, or the line that says why they are not counted here.
+pub fn of(chip: &str, load: Load) -> Result<u64, String> {
     count(chip, load).map_err(|why| {
         let counter = emulator().unwrap_or_else(|| "valgrind".to_string());
         format!("the instructions are not counted here ({counter}: {why})")
@@ -136,9 +134,16 @@ mod tests {
 
     #[test]
     fn what_every_run_takes_is_left_out() {
+        let each = |fewer, more| each(Load::Idle, fewer, more);
         assert_eq!(said(each(1000, 1000 + 735 * 1056)), Ok(735));
         assert_eq!(said(each(1000, 1000 + 735 * 1056 + 527)), Ok(735));
         assert_eq!(said(each(1000, 1000 + 735 * 1056 + 528)), Ok(736));
         assert!(each(1001, 1000).is_err());
+    }
+
+    #[test]
+    fn a_run_is_counted_by_a_thousand_ticks() {
+        assert_eq!(said(each(Load::RunFresh, 1000, 1000 + 46_080 / 2)), Ok(500));
+        assert_eq!(said(each(Load::Run9600, 1000, 1000 + 40 * 7_680)), Ok(40_000));
     }
 }

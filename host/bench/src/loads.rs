@@ -1,6 +1,6 @@
 //! What the chips are given to do.
 
-use crate::chips::{Chip, PLAIN, PROVED};
+use crate::chips::{Chip, MOST_EVENTS, PLAIN, PROVED};
 
 /// What a chip does while it is measured.
 #[derive(Clone, Copy)]
@@ -9,23 +9,61 @@ pub enum Load {
     Idle,
     /// Both channels at 38,400 bits a second, each sending to the other.
     Busy,
+    /// Order 5: the ticks of an idle chip in polls of 4,096.
+    Poll,
+    /// Order 5: runs of a fresh chip, CSR 0 and the timer off.
+    RunFresh,
+    /// Order 5: runs with both channels sending and receiving at 9,600 bits a second.
+    Run9600,
 }
 
 impl Load {
-    pub const ALL: [Load; 2] = [Load::Idle, Load::Busy];
+    pub const ALL: [Load; 5] = [Load::Idle, Load::Busy, Load::Poll, Load::RunFresh, Load::Run9600];
 
     pub fn name(self) -> &'static str {
         match self {
             Load::Idle => "idle",
             Load::Busy => "busy",
+            Load::Poll => "poll",
+            Load::RunFresh => "run-fresh",
+            Load::Run9600 => "run-9600",
+        }
+    }
+
+    /// A run passes over most ticks, so its instructions are counted for a thousand of them.
+    pub fn ticks_counted(self) -> u64 {
+        match self {
+            Load::Idle | Load::Busy | Load::Poll => 1,
+            Load::RunFresh | Load::Run9600 => 1_000,
+        }
+    }
+
+    pub fn unit(self) -> &'static str {
+        match self.ticks_counted() {
+            1 => "instructions a tick",
+            _ => "instructions a thousand ticks",
+        }
+    }
+
+    /// The ticks of two runs whose instructions are counted. Between them is a whole number of what comes again: a frame of 11
+    /// bits at 38,400 bits a second, in which a character comes; a poll of 4,096; ten periods of code 0; two frames at 9,600.
+    /// More say nothing more, and the emulator's log has a line for each instruction.
+    pub fn spans(self) -> [u32; 2] {
+        match self {
+            Load::Idle | Load::Busy => [528, 1_584],
+            Load::Poll => [1, 1 + 4_096],
+            Load::RunFresh => [4_608, 11 * 4_608],
+            Load::Run9600 => [2 * FRAME_9600, 4 * FRAME_9600],
         }
     }
 
     /// A chip that is ready for it.
     pub fn ready<C: Chip>(self) -> C {
         let mut chip = C::fresh();
-        if let Load::Busy = self {
-            prepare(&mut chip);
+        match self {
+            Load::Busy => prepare(&mut chip),
+            Load::Run9600 => prepare_9600(&mut chip),
+            Load::Idle | Load::Poll | Load::RunFresh => {}
         }
         chip
     }
@@ -35,6 +73,9 @@ impl Load {
         match self {
             Load::Idle => idle(chip, ticks),
             Load::Busy => busy(chip, ticks),
+            Load::Poll => poll(chip, ticks),
+            Load::RunFresh => run_fresh(chip, ticks),
+            Load::Run9600 => run_9600(chip, ticks),
         }
     }
 }
@@ -100,23 +141,97 @@ fn serve<C: Chip>(chip: &mut C, base: u8, tick: u32) -> u64 {
     sum
 }
 
+// ------------------------------------------------------------ order 5's calls
+
+fn poll<C: Chip>(chip: &mut C, ticks: u32) -> u64 {
+    let mut sum = 0;
+    let mut left = ticks as usize;
+    while left > 0 {
+        let (count, txda) = chip.poll_ticks(left.min(MOST_EVENTS));
+        sum += count as u64 + u64::from(txda);
+        left -= count;
+    }
+    sum
+}
+
+fn run_fresh<C: Chip>(chip: &mut C, ticks: u32) -> u64 {
+    let (ran, irq) = chip.run(ticks);
+    u64::from(ran) + u64::from(irq)
+}
+
+/// 3,686,400 ticks a second, 9,600 bits a second.
+const BIT_9600: u32 = 384;
+/// A start bit, 8 data bits and a stop bit.
+const FRAME_9600: u32 = 10 * BIT_9600;
+
+/// Code 11 for 9,600 bits a second, 8 data bits, no parity, the receivers and transmitters on; IRQ by what has come.
+fn prepare_9600<C: Chip>(chip: &mut C) {
+    for base in [0, 8] {
+        for (register, byte) in [(0, 0x13), (0, 0x07), (1, 0xbb), (2, 0x05)] {
+            chip.step(model::Event::Write(base + register, byte));
+        }
+    }
+    chip.step(model::Event::Write(5, 0x22));
+    go_on(chip, BIT_9600);
+}
+
+/// Someone sends into both RxD, a character after the other, and each time one has come IRQ is served and the transmitters are
+/// given the next: as an emulator goes on, from one thing that happens outside to the next.
+fn run_9600<C: Chip>(chip: &mut C, ticks: u32) -> u64 {
+    let mut sum = 0;
+    for bit in 0..ticks / BIT_9600 {
+        let levels = (u32::from((bit / 10) as u8) << 1) | 0x200;
+        let high = (levels >> (bit % 10)) & 1 == 1;
+        chip.step(model::Event::Pins(if high { 0xff } else { 0x3f }));
+        sum += go_on(chip, BIT_9600);
+    }
+    sum
+}
+
+/// Ticks until something happens outside, with IRQ served.
+fn go_on<C: Chip>(chip: &mut C, ticks: u32) -> u64 {
+    let mut sum = 0;
+    let mut left = ticks;
+    while left > 0 {
+        let (ran, irq) = chip.run(left);
+        left -= ran;
+        if irq {
+            sum += serve(chip, 0, left) + serve(chip, 8, left);
+        }
+    }
+    sum
+}
+
 #[cfg(test)]
 mod tests {
     use super::*;
-    use crate::count::{FEWER, MORE};
 
     #[test]
     fn the_two_see_the_same() {
-        for load in ["idle", "busy"] {
-            let seen = |chip| run(chip, load, &MORE.to_string()).expect("a chip and a load");
-            assert_eq!(seen(PROVED), seen(PLAIN), "{load}");
+        for load in Load::ALL {
+            let ticks = load.spans()[1].to_string();
+            let seen = |chip| run(chip, load.name(), &ticks).expect("a chip and a load");
+            assert_eq!(seen(PROVED), seen(PLAIN), "{}", load.name());
         }
     }
 
     #[test]
     fn characters_come_while_it_is_counted() {
-        let seen = |ticks: u32| run(PROVED, "busy", &ticks.to_string()).expect("a chip and a load");
-        assert!(seen(MORE) > seen(FEWER));
+        for load in [Load::Busy, Load::Run9600] {
+            let seen = load.spans().map(|ticks| run(PROVED, load.name(), &ticks.to_string()));
+            assert!(seen[1] > seen[0], "{}", load.name());
+        }
+    }
+
+    /// Of each channel: a character in each frame, and a transmitter that is never idle once it was served.
+    #[test]
+    fn both_channels_send_and_receive_at_9600() {
+        let mut chip: model::Chip = Load::Run9600.ready();
+        Load::Run9600.run(&mut chip, 2 * FRAME_9600);
+        let status = [1, 9].map(|register| Chip::step(&mut chip, model::Event::Read(register)).2);
+        assert_eq!(status.map(|status| status & 0xf9), [0; 2]);
+        let buffers = [3, 11].map(|register| Chip::step(&mut chip, model::Event::Read(register)).2);
+        assert_eq!(buffers, [1; 2]);
     }
 
     #[test]

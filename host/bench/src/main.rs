@@ -1,10 +1,10 @@
 //! Ticks a second and instructions a tick, the proved chip through `duart_step` beside the independent model, both
-//! built for release: idle, and with both channels sending and receiving. Of the times it is the ratio of the two that
-//! counts, and each against real time; the times themselves are the machine's.
+//! built for release: idle, and with both channels sending and receiving; then through `duart_poll` and `duart_run` (order 5).
+//! Of the times it is the ratio of the two that counts, and each against real time; the times themselves are the machine's.
 //!
 //! `bench` prints times and counts; under an emulator the counts alone, for a time there says nothing.
-//! `bench check FILE` counts, and fails where the archive takes over 10% more instructions than FILE records.
-//! `bench run proved|plain idle|busy TICKS` does that and nothing else: it is what is counted.
+//! `bench check FILE` counts, and fails where the archive takes more instructions than FILE asks.
+//! `bench run proved|plain LOAD TICKS` does that and nothing else: it is what is counted. Loads are those of loads.rs by name.
 
 mod chips;
 mod count;
@@ -18,7 +18,7 @@ use std::time::{Duration, Instant};
 use std::{env, mem};
 
 /// The crystal's ticks a second.
-const REAL_TIME: f64 = 3_686_400.0;
+pub const REAL_TIME: f64 = 3_686_400.0;
 const ROUNDS: usize = 15;
 const TICKS_A_ROUND: u32 = 1_000_000;
 
@@ -53,13 +53,17 @@ fn print_times(load: Load) {
     );
 }
 
-fn print_counts(load: Load) -> Result<(), String> {
-    let proved = count::a_tick(PROVED, load)?;
-    let plain = count::a_tick(PLAIN, load)?;
+/// The proved chip's count beside the plain model's, and beside what so many idle ticks are by steps.
+fn print_counts(load: Load, step: &mut Option<u64>) -> Result<(), String> {
+    let proved = count::of(PROVED, load)?;
+    let plain = count::of(PLAIN, load)?;
+    let step = *step.get_or_insert(proved) * load.ticks_counted();
     println!(
-        "{}: proved {proved} instructions a tick, plain model {plain}; proved / plain {:.2}",
+        "{}: proved {proved} {}, plain model {plain}; proved / plain {:.4}, proved / idle steps {:.4}",
         load.name(),
-        proved as f64 / plain as f64
+        load.unit(),
+        proved as f64 / plain as f64,
+        proved as f64 / step as f64
     );
     Ok(())
 }
@@ -69,7 +73,9 @@ fn measure() {
     if count::emulator().is_none() {
         Load::ALL.into_iter().for_each(print_times);
     }
-    if let Err(why) = Load::ALL.into_iter().try_for_each(print_counts) {
+    let mut step = None;
+    let counted = Load::ALL.into_iter().try_for_each(|load| print_counts(load, &mut step));
+    if let Err(why) = counted {
         println!("{why}");
     }
 }
@@ -86,7 +92,8 @@ fn check(file: &str) -> ExitCode {
 }
 
 fn usage() -> ExitCode {
-    eprintln!("bench: `bench`, `bench check FILE` or `bench run proved|plain idle|busy TICKS`");
+    let loads = Load::ALL.map(Load::name).join("|");
+    eprintln!("bench: `bench`, `bench check FILE` or `bench run proved|plain {loads} TICKS`");
     ExitCode::from(2)
 }
 

@@ -75,7 +75,7 @@ pub fn run(count: u64, seed: u64) -> Result<Tally, Box<Failure>> {
 }
 
 /// Kind 6 stands for all above 5. A chip reset's byte is 0, which a caller writes into what a kind does not use.
-fn event_of_kind(draws: &mut Generator, kind: u8) -> EventRecord {
+pub fn event_of_kind(draws: &mut Generator, kind: u8) -> EventRecord {
     let above_15 = draws.one_in(16);
     EventRecord {
         kind: if kind == 6 {

@@ -7,3 +7,5 @@ const _: () = assert!(size_of::<duart::Device>() == 200);
 const _: () = assert!(size_of::<duart::Seen>() == 7);
 const _: () = assert!(size_of::<duart::EventRecord>() == 3);
 const _: () = assert!(size_of::<duart::FrameAnswer>() == 2);
+const _: () = assert!(size_of::<duart::Polled>() == 16);
+const _: () = assert!(size_of::<duart::Ran>() == 12);

@@ -1,16 +1,21 @@
 //! The differential test: the proved chip, through the archive's C interface, beside the independent model
-//! of document 01 and its orders. `differential [EVENTS [SEED]]` runs so many events of random scripts, then random devices
-//! and all frame requests, and exits with 1 at the first difference, which it prints so that the replay
-//! program can show it. From the fixed seed it also asks that the scripts reach all that coverage.rs counts.
+//! of document 01 and its orders. `differential [EVENTS [SEED]]` runs so many events of random scripts, some of
+//! them again through order 5's calls, then random devices and all frame requests, and exits with 1 at the first
+//! difference, which it prints, of a script so that the replay program can show it. From the fixed seed it also asks
+//! that the scripts reach all that coverage.rs counts, and the calls all that call_sights.rs counts.
 
+mod call_sights;
+mod calls;
 mod counting;
 mod coverage;
+mod device_calls;
 mod devices;
 mod drawing;
 mod frames;
 mod generator;
 mod interface;
 mod line;
+mod long_runs;
 mod loops;
 mod mode_coverage;
 mod modes;
@@ -18,19 +23,24 @@ mod moment;
 mod pair;
 mod program;
 mod rates;
+mod replays;
 mod report;
+mod run_sights;
 mod script;
 mod scripts;
 mod sights;
 mod sound;
 mod starts;
 
+use call_sights::CallCoverage;
 use coverage::Coverage;
+use scripts::Scripts;
 use std::process::ExitCode;
 
 /// Enough to reach every sight of coverage.rs many times, in a second or two.
 const EVENTS: u64 = 4_000_000;
 const DEVICES: u64 = 200_000;
+const CALLED_DEVICES: u64 = 4_000;
 const SEED: u64 = 1;
 
 /// EVENTS and SEED; none where an argument is no number or there are more.
@@ -45,7 +55,7 @@ fn arguments() -> Option<(u64, u64)> {
 }
 
 /// The scripts, with what they reached; from the fixed seed a run as long as the default one must reach everything.
-fn run_scripts(events: u64, seed: u64) -> Result<String, ()> {
+fn run_scripts(events: u64, seed: u64) -> Result<(String, Scripts), ()> {
     let mut coverage = Coverage::default();
     let scripts = scripts::run(events, seed, &mut coverage).map_err(|failure| {
         report::print(&failure);
@@ -56,7 +66,27 @@ fn run_scripts(events: u64, seed: u64) -> Result<String, ()> {
         println!("the scripts never reached: {}", missing.join(", "));
         return Err(());
     }
-    Ok(format!("seed {seed}: {} events in {scripts} scripts", coverage.events()))
+    let done = format!("seed {seed}: {} events in {} scripts", coverage.events(), scripts.count);
+    Ok((done, scripts))
+}
+
+/// Order 5's calls: the scripts that were kept, drawn devices, and the largest budgets from the fixed seed alone.
+fn run_calls(events: u64, seed: u64, scripts: &Scripts) -> Result<String, ()> {
+    let mut coverage = CallCoverage::default();
+    for (seed, events) in &scripts.kept {
+        replays::run(*seed, events, &mut coverage).map_err(|misfit| misfit.print())?;
+    }
+    device_calls::run(CALLED_DEVICES, seed, &mut coverage).map_err(|failure| failure.print())?;
+    if seed == SEED {
+        long_runs::run(seed, &mut coverage).map_err(|failure| failure.print())?;
+    }
+    coverage.print();
+    let missing = coverage.missing();
+    if seed == SEED && events >= EVENTS && !missing.is_empty() {
+        println!("the calls never met: {}", missing.join(", "));
+        return Err(());
+    }
+    Ok(format!("{} polls, {} runs", coverage.polls, coverage.runs))
 }
 
 fn run_devices(seed: u64) -> Result<String, ()> {
@@ -92,10 +122,11 @@ fn run_frames(seed: u64) -> Result<String, ()> {
 }
 
 fn run_all(events: u64, seed: u64) -> Result<(), ()> {
-    let scripts = run_scripts(events, seed)?;
+    let (done, scripts) = run_scripts(events, seed)?;
+    let calls = run_calls(events, seed, &scripts)?;
     let devices = run_devices(seed)?;
     let frames = run_frames(seed)?;
-    println!("{scripts} and {frames}: the chip and the model do not differ; {devices}: sound or refused as they should be");
+    println!("{done}, {calls} and {frames}: the chip and the model do not differ; {devices}: sound or refused as they should be");
     Ok(())
 }
 

@@ -64,7 +64,7 @@ impl Pair {
 }
 
 /// What a record says: kinds 0 to 5 are in the order of `Event`, and a kind above 5 is a read of register 255.
-fn meaning(record: EventRecord) -> model::Event {
+pub fn meaning(record: EventRecord) -> model::Event {
     match record.kind {
         0 => model::Event::ChipReset,
         1 => model::Event::Read(record.reg),
@@ -77,7 +77,7 @@ fn meaning(record: EventRecord) -> model::Event {
 }
 
 /// The model's answer in the chip's type. All fields are named, so that a new one cannot be forgotten.
-fn seen_of(seen: model::Seen) -> Seen {
+pub fn seen_of(seen: model::Seen) -> Seen {
     let model::Seen {
         number,
         data,

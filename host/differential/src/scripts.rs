@@ -20,28 +20,45 @@ pub struct Failure {
     pub difference: Difference,
 }
 
+/// The events of one script in so many are kept, to be gone through again.
+const KEPT: u64 = 8;
+
+/// What was run: how many scripts, and the seeds and events of some.
+#[derive(Default)]
+pub struct Scripts {
+    pub count: u64,
+    pub kept: Vec<(u64, Vec<EventRecord>)>,
+}
+
 /// Scripts of the seeds from `seed` on, until so many events are done.
-pub fn run(events: u64, seed: u64, coverage: &mut Coverage) -> Result<u64, Box<Failure>> {
-    let mut scripts = 0;
+pub fn run(events: u64, seed: u64, coverage: &mut Coverage) -> Result<Scripts, Box<Failure>> {
+    let mut scripts = Scripts::default();
     while coverage.events() < events {
-        run_one(seed.wrapping_add(scripts), coverage)?;
-        scripts += 1;
+        let seed = seed.wrapping_add(scripts.count);
+        let events = run_one(seed, coverage)?;
+        if scripts.count % KEPT == 0 {
+            scripts.kept.push((seed, events));
+        }
+        scripts.count += 1;
     }
     Ok(scripts)
 }
 
-fn run_one(seed: u64, coverage: &mut Coverage) -> Result<(), Box<Failure>> {
+/// The events of the script of a seed.
+fn run_one(seed: u64, coverage: &mut Coverage) -> Result<Vec<EventRecord>, Box<Failure>> {
     let events_before = coverage.events();
     let mut script = Script::with_seed(seed, coverage);
-    script.run(Rate::of_seed(seed)).map_err(|difference| {
-        let events = script.pair.history().to_vec();
-        Box::new(Failure {
+    let ran = script.run(Rate::of_seed(seed));
+    let events = script.pair.history().to_vec();
+    match ran {
+        Ok(()) => Ok(events),
+        Err(difference) => Err(Box::new(Failure {
             seed,
             events_in_all: events_before + events.len() as u64,
             events,
             difference,
-        })
-    })
+        })),
+    }
 }
 
 impl Script<'_> {

@@ -1,9 +1,9 @@
 //! The proved MC68681 serial chip, for Rust.
 //!
 //! The archive `libduart.a` holds the chip as `rt staticlib duart` compiles it from the proved source; this crate declares
-//! its four names and gives them a safe face. What each call promises is the contract of the Rattle function of that name:
+//! its six names and gives them a safe face. What each call promises is the contract of the Rattle function of that name:
 //! every call on every device and every event ends with an answer, a refused event leaves the device as it was, and a refused
-//! frame request leaves the space as it was.
+//! frame request or poll leaves the space as it was.
 //!
 //! ```
 //! use duart::{Duart, Event};
@@ -15,9 +15,11 @@
 //! ```
 
 mod archive;
+mod calls;
 pub mod device;
 pub mod mode;
 
+pub use calls::{Polled, Ran, MOST_EVENTS, MOST_TICKS};
 pub use device::Device;
 
 /// An event, one of document 01's six.
@@ -59,9 +61,10 @@ impl From<Event> for EventRecord {
     }
 }
 
-/// What is seen of an answer. Refused: data 0, stale, and the lines as the chip drives them (for 1, all lines 0).
+/// What is seen of an answer. Refused: data 0, stale, and the lines as the chip drives them (for 1, all lines 0). The default,
+/// all zeros, is for space that a [poll](Duart::poll) is to write.
 #[repr(C)]
-#[derive(Clone, Copy, Debug, PartialEq, Eq)]
+#[derive(Clone, Copy, Debug, Default, PartialEq, Eq)]
 pub struct Seen {
     /// 0 accepted, else the number of document 01's table
     pub number: u8,

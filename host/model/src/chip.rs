@@ -106,7 +106,7 @@ impl Chip {
         0
     }
 
-    fn seen(&self, number: u8, data: u8, fresh: bool) -> Seen {
+    pub(crate) fn seen(&self, number: u8, data: u8, fresh: bool) -> Seen {
         let isr = self.isr();
         Seen {
             number,

@@ -5,6 +5,7 @@
 //! A comment in double quotes is a sentence (or a part of one) of document 01, word for word; where an
 //! order is named before it, of that order.
 
+pub mod calls;
 pub mod channel;
 pub mod character;
 pub mod chip;
@@ -28,5 +29,6 @@ mod registers;
 #[cfg(test)]
 mod tests;
 
+pub use calls::{Polled, Ran};
 pub use chip::{Chip, Event, Seen};
 pub use request::{frame, FrameAnswer};

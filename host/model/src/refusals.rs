@@ -16,8 +16,10 @@ pub const COMMAND_WITH_11: u8 = 4;
 pub const NOT_MODELLED: u8 = 5;
 /// "acknowledge while IRQ is not asserted"
 pub const NOT_ASSERTED: u8 = 6;
-/// "lent space shorter than the frame"
+/// "lent space shorter than the frame"; order 5: "8 for answer space shorter than the list"
 pub const SPACE_TOO_SHORT: u8 = 8;
+/// Order 5: "9 for a list or budget over its limit"
+pub const OVER_THE_LIMIT: u8 = 9;
 
 impl Chip {
     /// The number of an event's answer. "Checked in this order."

@@ -100,16 +100,16 @@ passed-adds d n m l =
 -- ---- many ticks ----
 
 -- the first of them
-first-passes : (d : Device) → isSoundOf d ≡ true → 0 < frontRoom (d .front) → stepOf d Tick .state ≡ passedOf d (ticksOf 1)
+pub first-passes : (d : Device) → isSoundOf d ≡ true → 0 < frontRoom (d .front) → stepOf d Tick .state ≡ passedOf d (ticksOf 1)
 unfolding atRest
 first-passes d s h = ap (λ (x : Answer). x .state) (tick-step d s) ∙ device-on d (sound-ticks d s) h
 
 -- it leaves a sound device, and one less of the room
-first-sound : (d : Device) → isSoundOf d ≡ true → isSoundOf (stepOf d Tick .state) ≡ true
+pub first-sound : (d : Device) → isSoundOf d ≡ true → isSoundOf (stepOf d Tick .state) ≡ true
 unfolding atRest
 first-sound d s = ap (λ (x : Answer). isSoundOf (x .state)) (tick-step d s) ∙ keeps-sound d Tick s (tick-free d s)
 
-first-falls : (n : ℕ) (d : Device) → isSoundOf d ≡ true → suc n ≤ frontRoom (d .front) → n ≤ frontRoom (stepOf d Tick .state .front)
+pub first-falls : (n : ℕ) (d : Device) → isSoundOf d ≡ true → suc n ≤ frontRoom (d .front) → n ≤ frontRoom (stepOf d Tick .state .front)
 unfolding passedOf
 first-falls n d s h =
     let falls = front-falls (d .front) (sound-ticks d s) (omega (arith, h)) in

@@ -8,11 +8,12 @@ use lib.Dec.{eqb, ltb, eqb·suc-zero}
 use borrow.Author.Tests.{lt-ltb, le-ltb}
 use Rattle.format.specs.Pick.{pick}
 use Rattle.bytes.specs.Bytes.{hasBit}
+use Rattle.format.specs.declared.counts.Ticks.{Ticks}
 use Rattle.dividers.proofs.Laws.Divider.{ticksOf}
 use Rattle.clocks.specs.Channel.{sideRoom}
 use Rattle.clocks.proofs.Laws.Passing.{channel-passes}
 use Rattle.timer_state.specs.declared.counting.Timer.{Timer}
-use Rattle.timer_state.specs.Counting.{modeOf, pulsedBy}
+use Rattle.timer_state.specs.Counting.{withCount, withPhases, modeOf, pulsedBy}
 use Rattle.timer.specs.Timer.{transmittedBy}
 use Rattle.timer.specs.Passing.{timerRoom, timerPassed}
 use Rattle.timer.proofs.Laws.Passing.{timer-passes}
@@ -20,9 +21,11 @@ use Rattle.inputs.specs.Inputs.{pinsOfA, pinsOfB}
 use Rattle.feed.specs.declared.feed.Feed.the-variants.{Nothing}
 use Rattle.receiver.specs.Receiver.{fedOf}
 use Rattle.front_side.specs.declared.side.Side.{Side}
+use Rattle.front_side.specs.Side.{withClocks}
 use Rattle.front_side_clocks.specs.Clocking.{transmitterPulsed, echoTaken, sideClocked}
 use Rattle.front_side_clocks.proofs.Laws.Hears.{hears-nothing}
 use Rattle.front.specs.declared.front.Front.{Front}
+use Rattle.front.specs.Front.{withSides}
 use Rattle.front_clocks.specs.Clocking.{countedOf, clockedWith, clockedOf as frontClocked, tickedOf}
 use Rattle.events.specs.declared.events.Event.the-variants.{Tick}
 use Rattle.front_events.specs.FrontEvents.{frontStepped}
@@ -30,7 +33,8 @@ use Rattle.chip_device.specs.declared.device.Device.{Device}
 use Rattle.chip_device.specs.Device.{deviceLines}
 use Rattle.chip_step.specs.Chip.{takenOf}
 use Rattle.chip_laws.proofs.Computing.{computing}
-use Rattle.chip_fast.specs.Passing.{channelRoom, frontRoom, sideOn, frontOn, passedOf}
+use Rattle.chip_fast.specs.declared.passing.Counts.{Counts}
+use Rattle.chip_fast.specs.Passing.{channelRoom, frontRoom, sideOn, frontOn, countsPassed, passedOf}
 use Rattle.chip_fast.specs.Fast.{fullOf}
 
 -- ---- the least of five ----
@@ -97,6 +101,28 @@ front-on f l h =
 pub device-on : (d : Device) → d .front .timer .ticks .0 < 16 → 0 < frontRoom (d .front) → fullOf d ≡ passedOf d (ticksOf 1)
 unfolding takenOf frontStepped passedOf fedOf
 device-on d l h = rw (front-on (d .front) l h)
+
+-- A device with the fields written that pass: the four phases, the count and the phase of ticks/16.
+abbrev phasesWith : Side → Ticks → Ticks → Side
+phasesWith s receiver transmitter =
+    withClocks s (s .csr)
+    (record { receiver = record { 0 = receiver .0 }; transmitter = record { 0 = transmitter .0 }; sixteenths = s .phases .sixteenths })
+
+abbrev timerWith : Timer → Counts → Timer
+timerWith t k = withCount (withPhases t (record { 0 = k .ticks .0 }) (t .edges)) (k .count) (t .output)
+
+abbrev pub writtenWith : Device → Counts → Device
+writtenWith d k =
+    let f : Front = d .front in
+    record {
+      front = withSides f (phasesWith (f .a) (k .rxca) (k .txca)) (phasesWith (f .b) (k .rxcb) (k .txcb)) (timerWith (f .timer) k);
+      a = d .a;
+      b = d .b;
+    }
+
+pub passed-written : (d : Device) (ticks : Ticks) (k : Counts) → k ≡ countsPassed (d .front) ticks → writtenWith d k ≡ passedOf d ticks
+unfolding passedOf timerPassed
+passed-written d ticks k e = rw e
 
 -- no line changes, however many ticks pass
 pub lines-stay : (d : Device) (n : ℕ) → deviceLines (passedOf d (ticksOf n)) ≡ deviceLines d

@@ -1,24 +1,15 @@
--- The answer to a tick: no row but the first refuses one; a sound device's is accepted, and where there is room it is answered in place. Assumes
+-- The answer to a tick: no row but the first refuses one, and a sound device's is accepted; so the short ways of a sound device are the step. Assumes
 -- nothing.
 use Prim.Native.Nat.{ℕ, _/_, _%_, _<_}
 use mathlib.Core.Path.{_≡_, refl, sym, _∙_, ap}
 use mathlib.Core.Bool.{Bool, true, false, not, true≢false, and-eq-true-iff}
 use native.Mathlib.Omega.{arith}
-use borrow.Author.Tests.{leb-true}
-use lib.Dec.{leb}
+use borrow.Author.Tests.{lt-ltb, leb-true, ltb-true}
+use lib.Dec.{leb, ltb}
 use Rattle.format.specs.Pick.{pick}
 use Rattle.dividers.proofs.Laws.Divider.{ticksOf}
 use Rattle.events.specs.declared.events.Event.{Event}
 use Rattle.events.specs.declared.events.Event.the-variants.{ChipReset, Read, Write, Acknowledge, Pins, Tick}
-use Rattle.format.specs.declared.counts.Ticks.{Ticks}
-use Rattle.clocks.specs.Channel.{sidePassed}
-use Rattle.timer_state.specs.declared.counting.Timer.{Timer}
-use Rattle.timer_state.specs.Counting.{withCount, withPhases, modeOf}
-use Rattle.timer.specs.Passing.{timerPassed}
-use Rattle.front_side.specs.declared.side.Side.{Side}
-use Rattle.front_side.specs.Side.{withClocks}
-use Rattle.front.specs.declared.front.Front.{Front}
-use Rattle.front.specs.Front.{withSides}
 use Rattle.front.specs.Sound.{frontInRange}
 use Rattle.front.proofs.Laws.Ranges.{front-told}
 use Rattle.chip_answers.specs.declared.answers.Lines.{Lines}
@@ -33,9 +24,18 @@ use Rattle.chip_step.specs.declared.chip.Answer.{Answer}
 use Rattle.chip_step.specs.Chip.{takenOf, refusalLines, refusedOf, acceptedOf, stepOf}
 use Rattle.chip_step.proofs.Laws.Table.{accepts, refuses-first}
 use Rattle.chip_laws.proofs.Sound.{keeps-sound}
-use Rattle.chip_fast.specs.Passing.{frontRoom, passedOf}
-use Rattle.chip_fast.specs.Fast.{isTick, atRest, fullOf, lateAnswer}
-use Rattle.chip_fast.proofs.Laws.Passing.{device-on, lines-stay}
+use Rattle.chip_fast.specs.declared.passing.Counts.{Counts}
+use Rattle.chip_fast.specs.Passing.{frontRoom, countsPassed, passedOf}
+use Rattle.chip_fast.specs.Fast.{isTick, atRest, fullOf, soundTick, soundAnswer}
+use Rattle.chip_fast.proofs.Laws.Passing.{device-on, writtenWith, passed-written, lines-stay}
+
+pub unless : (t : Bool) → not t ≡ true → t ≡ false
+unless true e = absurd (true≢false (sym e))
+unless false e = refl
+
+pub until : (t : Bool) → not t ≡ false → t ≡ true
+until true e = refl
+until false e = absurd (true≢false e)
 
 pub only-tick : (e : Event) → isTick e ≡ true → e ≡ Tick
 unfolding isTick
@@ -74,56 +74,53 @@ sound-ticks d s =
     let most = leb-true (d .front .timer .ticks .0) 15 (and-eq-true-iff (leb (d .front .timer .ticks .0) 15) _ .0 timer .0) in
     omega arith
 
--- where there is room: the lines that stood, and the device with a tick passed
-pub still-answer : (d : Device) → isSoundOf d ≡ true → 0 < frontRoom (d .front)
-    → record { number = 0; byte = 0; fresh = false; lines = deviceLines d; state = passedOf d (ticksOf 1) } ≡ stepOf d Tick
+-- ---- a sound device ----
+
+-- a tick where there is room, and where there is none
+pub sound-tick : (d : Device) → isSoundOf d ≡ true → soundTick d ≡ stepOf d Tick
+unfolding soundTick pick
+sound-tick d s = go (ltb 0 (frontRoom (d .front))) refl
+  where
+    go : (t : Bool) → ltb 0 (frontRoom (d .front)) ≡ t → atRest (pick t (passedOf d (ticksOf 1)) (fullOf d)) ≡ stepOf d Tick
+    go true e = ap atRest (sym (device-on d (sound-ticks d s) (ltb-true 0 _ e))) ∙ sym (tick-step d s)
+    go false e = sym (tick-step d s)
+
+sound-ticked : (d : Device) → isSoundOf d ≡ true → soundAnswer d Tick ≡ stepOf d Tick
+unfolding soundAnswer isTick pick
+sound-ticked d s = sound-tick d s
+
+-- every event, and of any device every event but a tick
+pub other-answer : (d : Device) (e : Event) → isTick e ≡ false → soundAnswer d e ≡ stepOf d e
+unfolding soundAnswer pick
+other-answer d e h = rw h
+
+pub sound-answer : (d : Device) (e : Event) → isSoundOf d ≡ true → soundAnswer d e ≡ stepOf d e
+sound-answer d e s = go (isTick e) refl
+  where
+    go : (t : Bool) → isTick e ≡ t → soundAnswer d e ≡ stepOf d e
+    go true h = ap (soundAnswer d) (only-tick e h) ∙ sound-ticked d s ∙ ap (stepOf d) (sym (only-tick e h))
+    go false h = other-answer d e h
+
+-- ---- the ways of a sound tick, as the code has them ----
+
+still-tick : (d : Device) → 0 < frontRoom (d .front) → atRest (passedOf d (ticksOf 1)) ≡ soundTick d
+unfolding soundTick pick
+still-tick d h = rw (lt-ltb 0 _ h)
+
+pub full-tick : (d : Device) → ltb 0 (frontRoom (d .front)) ≡ false → atRest (fullOf d) ≡ soundTick d
+unfolding soundTick pick
+full-tick d h = rw h
+
+-- an answer with the number, the lines and the fields written that a still tick writes
+pub still-written : (d : Device) (x : Answer) (lines : Lines) (k : Counts) → 0 < frontRoom (d .front)
+    → x ≡ refusedOf d 1 → lines ≡ deviceLines d → k ≡ countsPassed (d .front) (ticksOf 1)
+    → record { number = 0; byte = x .byte; fresh = x .fresh; lines = lines; state = writtenWith (x .state) k } ≡ soundTick d
 unfolding atRest
-still-answer d s h =
-    sym (tick-step d s ∙ ap atRest (device-on d (sound-ticks d s) h) ∙ ap (λ l. record { number = 0; byte = 0; fresh = false; lines = l; state = passedOf d (ticksOf 1) }) (lines-stay d 1))
-
--- An answer with the fields written that a still tick writes: number, lines, the four phases, the count and the phase of ticks/16.
-abbrev phasesWith : Side → Ticks → Ticks → Side
-phasesWith s receiver transmitter =
-    withClocks s (s .csr)
-    (record { receiver = record { 0 = receiver .0 }; transmitter = record { 0 = transmitter .0 }; sixteenths = s .phases .sixteenths })
-
-abbrev timerWith : Timer → Timer → Timer
-timerWith t x = withCount (withPhases t (record { 0 = x .ticks .0 }) (t .edges)) (x .count) (t .output)
-
-abbrev writtenWith : Answer → Lines → Ticks → Ticks → Ticks → Ticks → Timer → Answer
-writtenWith x lines ra ta rb tb t =
-    let f : Front = x .state .front in
-    record {
-      number = 0;
-      byte = x .byte;
-      fresh = x .fresh;
-      lines = lines;
-      state = record {
-        front = withSides f (phasesWith (f .a) ra ta) (phasesWith (f .b) rb tb) (timerWith (f .timer) t);
-        a = x .state .a;
-        b = x .state .b;
-      };
-    }
-
-pub still-written : (d : Device) (x : Answer) (lines : Lines) (ra ta rb tb : Ticks) (t : Timer) → isSoundOf d ≡ true → 0 < frontRoom (d .front)
-    → x ≡ refusedOf d 1 → lines ≡ deviceLines d
-    → ra ≡ sidePassed (d .front .a .phases .receiver) (d .front .a .csr / 16) (ticksOf 1)
-    → ta ≡ sidePassed (d .front .a .phases .transmitter) (d .front .a .csr % 16) (ticksOf 1)
-    → rb ≡ sidePassed (d .front .b .phases .receiver) (d .front .b .csr / 16) (ticksOf 1)
-    → tb ≡ sidePassed (d .front .b .phases .transmitter) (d .front .b .csr % 16) (ticksOf 1)
-    → t ≡ timerPassed (d .front .timer) (modeOf (d .front .acr)) (ticksOf 1)
-    → writtenWith x lines ra ta rb tb t ≡ stepOf d Tick
-unfolding passedOf timerPassed
-still-written d x lines ra ta rb tb t s h ex el e1 e2 e3 e4 et = rw (ex, el, e1, e2, e3, e4, et) (still-answer d s h)
-
--- what is left to the late way is the step's answer too
-pub late-tick : (d : Device) → isSoundOf d ≡ true → lateAnswer d Tick ≡ stepOf d Tick
-unfolding lateAnswer isTick pick
-late-tick d s = sym (tick-step d s)
-
-pub late-other : (d : Device) (e : Event) → isTick e ≡ false → lateAnswer d e ≡ stepOf d e
-unfolding lateAnswer pick
-late-other d e h = rw h
+still-written d x lines k h ex el ek =
+    ap (λ (y : Answer). record { number = 0; byte = y .byte; fresh = y .fresh; lines = lines; state = writtenWith (y .state) k }) ex
+    ∙ ap (λ (l : Lines). record { number = 0; byte = 0; fresh = false; lines = l; state = writtenWith d k }) (el ∙ sym (lines-stay d 1))
+    ∙ ap (λ (z : Device). record { number = 0; byte = 0; fresh = false; lines = deviceLines (passedOf d (ticksOf 1)); state = z }) (passed-written d (ticksOf 1) k ek)
+    ∙ still-tick d h
 
 -- ---- an acknowledge ----
 

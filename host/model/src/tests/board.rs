@@ -71,6 +71,11 @@ impl Board {
         board
     }
 
+    /// The chip alone. The board does not hear of pins that are moved through it.
+    pub fn chip(&mut self) -> &mut Chip {
+        &mut self.chip
+    }
+
     // ------------------------------------------------------------ events
 
     pub fn give(&mut self, event: Event) -> Seen {
@@ -139,6 +144,17 @@ impl Board {
     }
 
     // ------------------------------------------------------------ what shows
+
+    /// What shows of the whole state, and it stays as it was: the answers to reads of every register, and to
+    /// what moves the clocks, the counter and both channels.
+    pub fn shows(&self) -> Vec<Seen> {
+        let mut chip = self.chip.clone();
+        let reads = (0..16).map(Event::Read);
+        let pins = [0x00, 0xff, 0xc0, 0xff].into_iter().map(Event::Pins);
+        let moves = pins.chain([Event::Tick; 5_000]);
+        let events: Vec<Event> = reads.clone().chain(moves).chain(reads).collect();
+        events.into_iter().map(|event| chip.step(event)).collect()
+    }
 
     /// The lines as they stand, by an event that changes nothing.
     pub fn lines(&mut self) -> Seen {

@@ -1,5 +1,5 @@
-//! The model's tests, all through `Chip::step` and `frame`: the eleven cases, the traps, the open points of document 01 as
-//! docs/DECISIONS.md decides them, and the orders of document 02.
+//! The model's tests, all through `Chip::step`, `poll`, `run` and `frame`: the eleven cases, the traps, the open points of
+//! document 01 as docs/DECISIONS.md decides them, and the orders of document 02.
 
 mod board;
 mod breaks;
@@ -12,7 +12,9 @@ mod hunting;
 mod looping;
 mod mode_changes;
 mod mode_keeps;
+mod polling;
 mod queueing;
 mod registers;
 mod remote;
+mod running;
 mod sending;

@@ -1,43 +1,46 @@
--- `tick_times` meets its contract: the ticks that are left lead from the last answer to the end that is asked. Assumes nothing.
+-- `tick_times` meets its contract: of a sound device the last answer is that of the state after the ticks, of another each is the first. Assumes nothing.
 use Prim.{tt}
-use mathlib.Core.Path.{_≡_, refl, sym, _∙_}
+use mathlib.Core.Path.{sym, _∙_}
 use native.Mathlib.Omega.{arith}
-use borrow.Author.Needs.{needs}
-use Rattle.chip_ticks.specs.Ticks.{ticked}
-use Rattle.chip_ticks.proofs.Laws.{ticked-one, ticked-none}
+use Rattle.chip_ticks.proofs.Laws.{ticked-none, ticked-sound, ticked-unsound}
 use Rattle.chip_ticks.proofs.ticks.tick_times.Statement.{statement}
 use Rattle.chip_ticks.proofs.ticks.tick_times.Tie as tie
 
-abbrev Inv-loop : tie.InvT-loop
-Inv-loop last₀ left₀ last left = ticked left last ≡ ticked left₀ last₀
+returns : tie.Need-returns
+returns c = sym (ticked-none _ _ (c .if1 .taken))
 
-abbrev μ-loop : tie.MeasureT-loop
-μ-loop last₀ left₀ last left = left
+is-sound-requires : tie.Need-is-sound-requires
+is-sound-requires c κs = tt
 
-loop-holds : tie.Need-loop-holds Inv-loop μ-loop
-loop-holds c = refl
+spend-requires : tie.Need-spend-requires
+spend-requires c κs = sym (c .before .is-sound .ensures) ∙ c .if2 .taken
 
-swift-step-requires : tie.Need-swift-step-requires Inv-loop μ-loop
+at-rest-requires : tie.Need-at-rest-requires
+at-rest-requires c κs = tt
+
+returns-2 : tie.Need-returns-2
+returns-2 c =
+    let some = c .before .before .before .before .before .before .if1 .left in
+    let sound = sym (c .before .before .before .before .is-sound .ensures) ∙ c .before .before .before .if2 .taken in
+    simp (c .at-rest .ensures, c .before .before .spend .ensures) (ticked-sound _ _ (omega (arith, some)) sound)
+
+swift-step-requires : tie.Need-swift-step-requires
 swift-step-requires c κs = tt
 
-sub-left : tie.Need-sub-left Inv-loop μ-loop
-sub-left c = search needs
-
-loop-less : tie.Need-loop-less Inv-loop μ-loop
-loop-less c = search needs
-
-loop-again : tie.Need-loop-again Inv-loop μ-loop
-loop-again c =
-    let at = c .before .before .before .loop in
-    rw (c .swift-step .ensures) (sym (ticked-one (at .left) (at .last) (omega arith)) ∙ at .inv)
-
-returns : tie.Need-returns Inv-loop μ-loop
-returns c =
-    let at = c .before .loop in
-    let none : at .left ≡ 0 = omega arith in
-    sym (ticked-none (at .left) (at .last) none) ∙ at .inv
+returns-3 : tie.Need-returns-3
+returns-3 c =
+    let some = c .before .before .before .before .if1 .left in
+    let unsound = sym (c .before .before .is-sound .ensures) ∙ c .before .if2 .left in
+    simp (c .swift-step .ensures) (ticked-unsound _ _ (omega (arith, some)) unsound)
 
 pub tick-times-spec : {M : Type 1} → statement M
 tick-times-spec =
     tie.close
-    (tie.spec Inv-loop μ-loop loop-holds swift-step-requires sub-left loop-less loop-again returns)
+    (tie.spec
+    returns
+    is-sound-requires
+    spend-requires
+    at-rest-requires
+    returns-2
+    swift-step-requires
+    returns-3)

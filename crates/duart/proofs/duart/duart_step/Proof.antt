@@ -37,7 +37,7 @@ use denote.Triple.Walked.{says, Stays, stay-ref, stay-none, walkOf, AllGo, goes-
 use denote.Exit.{yes}
 use Rattle.chip_step.specs.Chip.{stepOf}
 use Rattle.records.specs.Records.{eventOf}
-use Rattle.duart.specs.Duart.{seenIn}
+use Rattle.poll.specs.Poll.{seenIn}
 use Rattle.chip_device.specs.declared.device.Device.{Device}
 use Rattle.records.specs.declared.records.EventRecord.{EventRecord}
 use Rattle.records.specs.declared.records.Seen.{Seen}
@@ -50,19 +50,19 @@ use Rattle.records.proofs.records.Seen as S
 use Rattle.records.proofs.records.Seen.Laws as S′
 use Rattle.chip_step.proofs.chip.Answer as N
 use Rattle.chip_step.proofs.chip.Answer.Laws as N′
-use Rattle.duart.proofs.Machine.{mD, mE, D-tells, E-tells, E-makes, N-makes, D-typed, E-typed, N-typed, S-typed}
+use Rattle.poll.proofs.Machine.{mD, mE, D-tells, E-tells, E-makes, N-makes, D-typed, E-typed, N-typed, S-typed}
 use Rattle.duart.proofs.duart.step_record as step
 use Rattle.duart.proofs.duart.step_record.Symbol as step-def
 use Rattle.duart.proofs.duart.step_record.Symbol.{name as #step}
 use Rattle.duart.proofs.duart.step_record.Met as step-thm
-use Rattle.duart.proofs.duart.state_in as state
-use Rattle.duart.proofs.duart.state_in.Symbol as state-def
-use Rattle.duart.proofs.duart.state_in.Symbol.{name as #state}
-use Rattle.duart.proofs.duart.state_in.Met as state-thm
-use Rattle.duart.proofs.duart.seen_in as seen
-use Rattle.duart.proofs.duart.seen_in.Symbol as seen-def
-use Rattle.duart.proofs.duart.seen_in.Symbol.{name as #seen}
-use Rattle.duart.proofs.duart.seen_in.Met as seen-thm
+use Rattle.poll.proofs.state_in as state
+use Rattle.poll.proofs.state_in.Symbol as state-def
+use Rattle.poll.proofs.state_in.Symbol.{name as #state}
+use Rattle.poll.proofs.state_in.Met as state-thm
+use Rattle.poll.proofs.seen_in as seen
+use Rattle.poll.proofs.seen_in.Symbol as seen-def
+use Rattle.poll.proofs.seen_in.Symbol.{name as #seen}
+use Rattle.poll.proofs.seen_in.Met as seen-thm
 use Rattle.duart.proofs.duart.duart_step.Key.{name as #duart-step}
 use Rattle.duart.proofs.duart.duart_step as f
 use Rattle.duart.proofs.duart.duart_step.Statement as stated
@@ -206,5 +206,5 @@ duart-step-spec 𝓤 H 𝓜 𝓖 𝓡 =
     (tables 𝓤 H 𝓜 𝓡 code.env .C) (tables 𝓤 H 𝓜 𝓡 code.env .Λ) #duart-step code.function (code.unfolded 𝓤 H 𝓜 𝓡)
     (meets 𝓤 H (𝓖 .A) (givenOf 𝓤 H 𝓜 𝓖) (𝓜 .mem) (𝓡 .run) (tablesOf 𝓤 H 𝓜 (tables 𝓤 H 𝓜 𝓡 code.env))
     (cited 𝓤 H (Step 𝓤 H (𝓖 .A) (𝓜 .mem) (𝓡 .run)) 𝓜 𝓡 code.env #step step-def.routine code.calls-duart·duart·step-record (step-thm.met 𝓤 H 𝓜 𝓖 𝓡))
-    (cited 𝓤 H (StateIn 𝓤 H (𝓖 .A) (𝓜 .mem) (𝓡 .run)) 𝓜 𝓡 code.env #state state-def.routine code.calls-duart·duart·state-in (state-thm.met 𝓤 H 𝓜 𝓖 𝓡))
-    (cited 𝓤 H (SeenIn 𝓤 H (𝓖 .A) (𝓜 .mem) (𝓡 .run)) 𝓜 𝓡 code.env #seen seen-def.routine code.calls-duart·duart·seen-in (seen-thm.met 𝓤 H 𝓜 𝓖 𝓡)))
+    (cited 𝓤 H (StateIn 𝓤 H (𝓖 .A) (𝓜 .mem) (𝓡 .run)) 𝓜 𝓡 code.env #state state-def.routine code.calls-poll·state-in (state-thm.met 𝓤 H 𝓜 𝓖 𝓡))
+    (cited 𝓤 H (SeenIn 𝓤 H (𝓖 .A) (𝓜 .mem) (𝓡 .run)) 𝓜 𝓡 code.env #seen seen-def.routine code.calls-poll·seen-in (seen-thm.met 𝓤 H 𝓜 𝓖 𝓡)))

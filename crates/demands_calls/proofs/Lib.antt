@@ -1,0 +1,3 @@
+-- The proof of what calls stand for, and wrong boards that are shut out.
+pub mod Calls
+mod ShutOut
