@@ -5,13 +5,17 @@
  * meet its contract (crates/duart/src/duart.rt) for every argument, so a caller owes no more than this:
  *
  *  - pointers lead to what they say, and are used by no other thread during the call;
- *  - every field of a struct is a value of its type. A bool is 0 or 1 and nothing else: a device that was filled from a file
- *    or from the network byte by byte must have its bools tested first.
+ *  - every field of a struct is a value of its type. A bool is 0 or 1 and nothing else: a device that was filled from a
+ *    file or from the network byte by byte must have its bools tested first.
  *
- * A device is made by duart_fresh() and altered by duart_step(), duart_poll() and duart_run() only. One that was made in another
- * way is still answered: with number 1 where it is unsound (docs/SOUND.md lists the ranges), and it is left as it was.
+ * A device is made by duart_fresh() and altered by duart_step(), duart_poll() and duart_run() only. One that was made
+ * in another way is still answered: with number 1 where it is unsound (docs/SOUND.md lists the ranges), and it is
+ * left as it was.
  *
  * Nothing here allocates, blocks, keeps a pointer or holds state of its own: two devices are two chips.
+ *
+ * In this order: the structs of a device; the names of registers, bits and codes; events and answers; the six
+ * functions; helpers, which are written in C here and call those.
  */
 #ifndef DUART_H
 #define DUART_H
@@ -43,8 +47,8 @@ typedef struct duart_bits {
 /* What MR1 chooses of a character's form. */
 typedef struct duart_format {
     duart_bits width; /* data bits, 5 to 8 */
-    uint8_t parity;   /* 0 with parity, 1 forced, 2 none */
-    bool odd;         /* odd, or forced high */
+    uint8_t parity;   /* 0 with parity, 1 forced, 2 none: MR1 bits 4-3 */
+    bool odd;         /* odd, or forced high: MR1 bit 2 */
 } duart_format;
 
 /* The form and the clock that a receiver takes at a character's low pulse p. */
@@ -53,9 +57,18 @@ typedef struct duart_setting {
     bool sixteen; /* 16X rather than 1X */
 } duart_setting;
 
+/* The phases of a sampler. */
+enum {
+    DUART_SAMPLER_HUNTING = 0,
+    DUART_SAMPLER_LOW = 1,      /* from a low at pulse p to p+8 */
+    DUART_SAMPLER_STARTED = 2,  /* a confirmed start */
+    DUART_SAMPLER_LOW_STOP = 3, /* after a low stop */
+    DUART_SAMPLER_BREAK = 4     /* waiting for a break's end */
+};
+
 /* What a receiver does with its line. */
 typedef struct duart_sampler {
-    uint8_t phase;     /* 0 hunting, 1 from p to p+8, 2 a confirmed start, 3 after a low stop, 4 in a break */
+    uint8_t phase;     /* DUART_SAMPLER_HUNTING and those below it */
     bool high;         /* hunting: the last sample was high */
     duart_pulses left; /* pulses still to come before the one that decides */
     duart_setting setting;
@@ -103,15 +116,23 @@ typedef struct duart_shifter {
     duart_pulses sent;
 } duart_shifter;
 
+/* The phases of a transmitter. */
+enum {
+    DUART_TRANSMITTER_IDLE = 0,
+    DUART_TRANSMITTER_CHARACTER = 1,
+    DUART_TRANSMITTER_BREAK = 2,
+    DUART_TRANSMITTER_AFTER_BREAK = 3 /* the high bit after a break */
+};
+
 typedef struct duart_transmitter {
     bool enabled;
     bool full; /* the holding place is full */
     uint8_t holding;
-    uint8_t phase; /* 0 idle, 1 a character, 2 a break, 3 the high bit after it */
+    uint8_t phase; /* DUART_TRANSMITTER_IDLE and those below it */
     duart_shifter shifter;
     duart_pulses left; /* after a break: pulses still to come before the one that completes the bit */
     bool asked;        /* a break is asked and has not begun */
-    bool txd;          /* the transmitter's own level: in normal mode TxD, in local loopback what the receiver samples */
+    bool txd; /* the transmitter's own level: in normal mode TxD, in local loopback what the receiver samples */
 } duart_transmitter;
 
 /* The phases of a channel's dividers. */
@@ -124,7 +145,7 @@ typedef struct duart_phases {
 /* One channel's registers, transmitter and clocks. */
 typedef struct duart_side {
     uint8_t mr1;
-    uint8_t mr2; /* bits 7-6 are the mode: DUART_NORMAL and the three below it */
+    uint8_t mr2; /* bits 7-6 are the mode, DUART_MR2_MODE */
     bool moved;  /* the pointer has moved from MR1 to MR2 */
     uint8_t csr;
     bool enabled; /* the receiver's enable */
@@ -172,37 +193,222 @@ typedef struct duart_device {
     duart_receiver b;
 } duart_device;
 
-/* ---- the counter/timer ---- */
+/* Does not compile where structs are laid out otherwise than in the archive, say packed. */
+typedef char duart_device_is_200_bytes[sizeof(duart_device) == 200 ? 1 : -1];
+
+/* ---- the registers ---- */
+
+/* What one number is for a read and for a write where they differ. The names are the data sheet's. */
+enum {
+    DUART_MRA = 0,            /* MR1A, and MR2A from the first access on: DUART_CR_POINT_TO_MR1 goes back */
+    DUART_SRA = 1,            /* read: status */
+    DUART_CSRA = 1,           /* write: clock select, DUART_CSR(receiver, transmitter) */
+    DUART_CRA = 2,            /* write: command; a read is refused with 3 */
+    DUART_RBA = 3,            /* read: receive buffer */
+    DUART_TBA = 3,            /* write: transmit buffer */
+    DUART_IPCR = 4,           /* read: input port change */
+    DUART_ACR = 4,            /* write: auxiliary control */
+    DUART_ISR = 5,            /* read: interrupt status */
+    DUART_IMR = 5,            /* write: interrupt mask */
+    DUART_CUR = 6,            /* read: the count, high byte */
+    DUART_CTUR = 6,           /* write: the preload, high byte */
+    DUART_CLR = 7,            /* read: the count, low byte */
+    DUART_CTLR = 7,           /* write: the preload, low byte */
+    DUART_MRB = 8,            /* channel B: as DUART_MRA to DUART_TBA, each with DUART_CHANNEL_B added */
+    DUART_SRB = 9,
+    DUART_CSRB = 9,
+    DUART_CRB = 10,
+    DUART_RBB = 11,
+    DUART_TBB = 11,
+    DUART_IVR = 12,           /* interrupt vector */
+    DUART_INPUT_PORT = 13,    /* read: the levels of DUART_IP0 to DUART_IP5; bits 7 and 6 read 1 */
+    DUART_OPCR = 13,          /* write: output port configuration */
+    DUART_START_COUNTER = 14, /* read: start the counter/timer */
+    DUART_SET_OP = 14,        /* write: set output bits, which takes their pins low */
+    DUART_STOP_COUNTER = 15,  /* read: clear ISR bit 3 and stop the counter; a timer runs on */
+    DUART_RESET_OP = 15,      /* write: reset output bits, which takes their pins high */
+    DUART_CHANNEL_A = 0,      /* what is added to a register of channel A's */
+    DUART_CHANNEL_B = 8
+};
+
+/* ---- the bits of registers: one list each, of which those that go together are joined by | ---- */
+
+/* MR1: the parity, the data bits. Bit 7 and bits 4-3 = 11 are refused with 5. */
+enum {
+    DUART_MR1_FFULL = 0x40, /* ISR tells of a full queue instead of RxRDY */
+    DUART_MR1_BLOCK = 0x20, /* SR 7-5 sum up the marks of a block, and are not those of the oldest */
+    DUART_MR1_EVEN_PARITY = 0x00,
+    DUART_MR1_ODD_PARITY = 0x04,
+    DUART_MR1_LOW_PARITY = 0x08,  /* forced low */
+    DUART_MR1_HIGH_PARITY = 0x0c, /* forced high */
+    DUART_MR1_NO_PARITY = 0x10,
+    DUART_MR1_5_BITS = 0x00,
+    DUART_MR1_6_BITS = 0x01,
+    DUART_MR1_7_BITS = 0x02,
+    DUART_MR1_8_BITS = 0x03
+};
 
 /*
- * A read of register 14 is a start and one of 15 a stop, which clears ISR bit 3. In the timer modes (ACR bit 6) order 4 says of
- * the start: "a start that takes the output from low to high does set ISR bit 3". With the output high, and in the counter
- * modes, it neither sets nor clears it; a change of ACR bits 6-4 raises the output too and sets no bit. Neither is a pulse of
- * code 13. examples/spindle.c goes by it.
- */
-
-/* ---- the modes of a channel ---- */
-
-/*
- * MR2 bits 7-6, written together with the rest of MR2. Order 2 says of them:
+ * MR2: the mode of the channel, CTS, the stop code. Bit 5 is refused with 5. A stop code c is 9+c sixteenths of a bit
+ * for c up to 7 and 17+c above it; for 5 data bits 17+c always. With a 1X clock: one bit, two if bit 3 is set.
  *
- *  - local loopback: "the receiver takes the transmitter's level and its clock, TxD stays high, RxD is ignored, CTS still counts";
- *  - automatic echo: "no character or break starts; at each pulse of an enabled receiver TxD takes the sampled level (high while
- *    disabled), the receiver works as usual, TxRDY and TxEMT read 0";
+ * Order 2 says of the modes:
+ *
+ *  - local loopback: "the receiver takes the transmitter's level and its clock, TxD stays high, RxD is ignored, CTS
+ *    still counts";
+ *  - automatic echo: "no character or break starts; at each pulse of an enabled receiver TxD takes the sampled level
+ *    (high while disabled), the receiver works as usual, TxRDY and TxEMT read 0";
  *  - remote loopback: "the same echo, and no character is put together";
- *  - all four: "A mode change drops what is being sent (a break too; the holding place stays) or put together, leaves an enabled
- *    receiver as just enabled, and holds TxD high until the next pulse." The same two bits written again are no mode change.
+ *  - all four: "A mode change drops what is being sent (a break too; the holding place stays) or put together, leaves
+ *    an enabled receiver as just enabled, and holds TxD high until the next pulse." The same two bits written again
+ *    are no mode change.
  *
- * What a start-up test meets first: in local loopback a byte that is written before one pulse of the transmitter's clock has
- * passed since mode and enable is not received, because a receiver just enabled must sample a high before a low counts (a later
- * low of it may be taken for a start, and another character comes). Let one pulse pass, then write. The receiver must be
- * enabled, as in normal mode. examples/loopback.c is such a test.
+ * What a start-up test meets first: in local loopback a byte that is written before one pulse of the transmitter's
+ * clock has passed since mode and enable is not received, because a receiver just enabled must sample a high before a
+ * low counts (a later low of it may be taken for a start, and another character comes). Let one pulse pass, then
+ * write. The receiver must be enabled, as in normal mode. examples/loopback.c is such a test.
  */
 enum {
     DUART_NORMAL = 0x00,
     DUART_AUTOMATIC_ECHO = 0x40,
     DUART_LOCAL_LOOPBACK = 0x80,
-    DUART_REMOTE_LOOPBACK = 0xc0
+    DUART_REMOTE_LOOPBACK = 0xc0,
+    DUART_MR2_MODE = 0xc0,      /* where the mode stands */
+    DUART_MR2_CTS = 0x10,       /* a character starts only while CTS is low: IP0 for A, IP1 for B */
+    DUART_MR2_STOP_CODE = 0x0f, /* where the stop code stands */
+    DUART_MR2_STOP_1 = 0x07,    /* one stop bit; with 5 data bits one and a half */
+    DUART_MR2_STOP_2 = 0x0f     /* two stop bits */
+};
+
+/* SR. Bits 7-5 are the marks of the oldest character, or the sums of a block. */
+enum {
+    DUART_SR_BREAK = 0x80,
+    DUART_SR_FRAMING = 0x40,
+    DUART_SR_PARITY = 0x20,
+    DUART_SR_OVERRUN = 0x10,
+    DUART_SR_TXEMT = 0x08, /* enabled, holding place and shifter empty */
+    DUART_SR_TXRDY = 0x04, /* enabled and holding place empty */
+    DUART_SR_FFULL = 0x02, /* three in the queue */
+    DUART_SR_RXRDY = 0x01, /* queue not empty */
+    DUART_SR_ERRORS = 0xf0 /* the four of bits 7-4 */
+};
+
+/*
+ * CSR: the clock codes of a receiver, bits 7-4, and of a transmitter, bits 3-0. A name without SET1 or SET2 is the
+ * same code in both sets; ACR bit 7 chooses the set for both channels. A second has DUART_TICKS_A_SECOND ticks of the
+ * crystal. A pin that is a clock gives a pulse at its rising edges to a receiver, at its falling ones to a transmitter.
+ */
+#define DUART_CSR(receiver, transmitter) ((receiver) << 4 | (transmitter))
+enum {
+    DUART_BAUD_50_SET1 = 0,
+    DUART_BAUD_75_SET2 = 0,
+    DUART_BAUD_110 = 1,
+    DUART_BAUD_134_5 = 2,
+    DUART_BAUD_200_SET1 = 3,
+    DUART_BAUD_150_SET2 = 3,
+    DUART_BAUD_300 = 4,
+    DUART_BAUD_600 = 5,
+    DUART_BAUD_1200 = 6,
+    DUART_BAUD_1050_SET1 = 7,
+    DUART_BAUD_2000_SET2 = 7,
+    DUART_BAUD_2400 = 8,
+    DUART_BAUD_4800 = 9,
+    DUART_BAUD_7200_SET1 = 10,
+    DUART_BAUD_1800_SET2 = 10,
+    DUART_BAUD_9600 = 11,
+    DUART_BAUD_38400_SET1 = 12,
+    DUART_BAUD_19200_SET2 = 12,
+    DUART_CLOCK_TIMER = 13, /* the timer's toggle to high is a 16X pulse; none in counter mode */
+    DUART_CLOCK_16X = 14,   /* a pin: of a receiver A IP4, B IP2, of a transmitter A IP3, B IP5 */
+    DUART_CLOCK_1X = 15     /* the same pins, one pulse a bit */
+};
+#define DUART_TICKS_A_SECOND 3686400
+
+/* CR: one of bits 6-4, done first, with enable or disable of the transmitter and of the receiver (not both: 4). */
+enum {
+    DUART_CR_ENABLE_RECEIVER = 0x01,
+    DUART_CR_DISABLE_RECEIVER = 0x02,
+    DUART_CR_ENABLE_TRANSMITTER = 0x04,
+    DUART_CR_DISABLE_TRANSMITTER = 0x08,
+    DUART_CR_POINT_TO_MR1 = 0x10,
+    DUART_CR_RESET_RECEIVER = 0x20,    /* disabled; queue, waiting place and assembly cleared; overrun mark stays */
+    DUART_CR_RESET_TRANSMITTER = 0x30, /* disabled, all dropped, TxD high */
+    DUART_CR_CLEAR_ERRORS = 0x40,      /* overrun, block sums and the oldest character's marks */
+    DUART_CR_CLEAR_BREAK_CHANGE = 0x50,
+    DUART_CR_START_BREAK = 0x60,
+    DUART_CR_STOP_BREAK = 0x70
+};
+
+/* IPCR: the change flags, which a read clears, and the levels. */
+enum {
+    DUART_IPCR_CHANGE_IP3 = 0x80,
+    DUART_IPCR_CHANGE_IP2 = 0x40,
+    DUART_IPCR_CHANGE_IP1 = 0x20,
+    DUART_IPCR_CHANGE_IP0 = 0x10,
+    DUART_IPCR_LEVEL_IP3 = 0x08,
+    DUART_IPCR_LEVEL_IP2 = 0x04,
+    DUART_IPCR_LEVEL_IP1 = 0x02,
+    DUART_IPCR_LEVEL_IP0 = 0x01
+};
+
+/*
+ * ACR: the set of rates, what the counter/timer counts, and the changes that ISR bit 7 tells of.
+ *
+ * A read of DUART_START_COUNTER is a start and one of DUART_STOP_COUNTER a stop, which clears ISR bit 3. In the timer
+ * modes order 4 says of the start: "a start that takes the output from low to high does set ISR bit 3". With the
+ * output high, and in the counter modes, it neither sets nor clears it; a change of ACR bits 6-4 raises the output
+ * too and sets no bit. Neither is a pulse of DUART_CLOCK_TIMER. examples/spindle.c goes by it.
+ */
+enum {
+    DUART_ACR_SET1 = 0x00,
+    DUART_ACR_SET2 = 0x80,
+    DUART_ACR_COUNTER_IP2 = 0x00,      /* rising edges */
+    DUART_ACR_COUNTER_TXCA = 0x10,     /* the 1X clock of A's transmitter */
+    DUART_ACR_COUNTER_TXCB = 0x20,
+    DUART_ACR_COUNTER_TICKS_16 = 0x30, /* every 16th tick */
+    DUART_ACR_TIMER_IP2 = 0x40,
+    DUART_ACR_TIMER_IP2_16 = 0x50,
+    DUART_ACR_TIMER_TICKS = 0x60,
+    DUART_ACR_TIMER_TICKS_16 = 0x70,
+    DUART_ACR_TIMER = 0x40, /* set in the timer modes */
+    DUART_ACR_IP3 = 0x08,
+    DUART_ACR_IP2 = 0x04,
+    DUART_ACR_IP1 = 0x02,
+    DUART_ACR_IP0 = 0x01
+};
+
+/* ISR, and IMR: IRQ is asserted when they share a set bit. */
+enum {
+    DUART_ISR_INPUT_CHANGE = 0x80, /* some flag of IPCR is set whose ACR bit is set */
+    DUART_ISR_BREAK_CHANGE_B = 0x40,
+    DUART_ISR_RX_B = 0x20, /* RxRDY, or FFULL by DUART_MR1_FFULL */
+    DUART_ISR_TXRDY_B = 0x10,
+    DUART_ISR_COUNTER = 0x08,
+    DUART_ISR_BREAK_CHANGE_A = 0x04,
+    DUART_ISR_RX_A = 0x02,
+    DUART_ISR_TXRDY_A = 0x01
+};
+
+/* OPCR: which pins show the complement of an ISR bit. Bits 1-0, and bit 3, are refused with 5. */
+enum {
+    DUART_OPCR_OP7_TXRDY_B = 0x80,
+    DUART_OPCR_OP6_TXRDY_A = 0x40,
+    DUART_OPCR_OP5_RX_B = 0x20,
+    DUART_OPCR_OP4_RX_A = 0x10,
+    DUART_OPCR_OP3_COUNTER = 0x04 /* in the timer modes the timer output */
+};
+
+/* The pins of a pins event, the levels of DUART_INPUT_PORT (IP0 to IP5 alone), and their number when all are high. */
+enum {
+    DUART_IP0 = 0x01,
+    DUART_IP1 = 0x02,
+    DUART_IP2 = 0x04,
+    DUART_IP3 = 0x08,
+    DUART_IP4 = 0x10,
+    DUART_IP5 = 0x20,
+    DUART_RXDA = 0x40,
+    DUART_RXDB = 0x80,
+    DUART_ALL_HIGH = 0xff
 };
 
 /* ---- one event, one answer ---- */
@@ -213,11 +419,11 @@ enum {
     DUART_READ = 1,        /* register `reg` */
     DUART_WRITE = 2,       /* register `reg` with `byte` */
     DUART_ACKNOWLEDGE = 3, /* an interrupt acknowledge */
-    DUART_PINS = 4,        /* all pins at once; `byte`: bits 0-5 IP0-IP5, 6 RxDA, 7 RxDB, 1 is high */
+    DUART_PINS = 4,        /* all pins at once; `byte`: DUART_IP0 to DUART_RXDB, 1 is high */
     DUART_TICK = 5         /* one tick of the 3.6864 MHz crystal */
 };
 
-/* An event. Write 0 into what a kind does not use. */
+/* An event: duart_tick() and the makers beside it make one. Write 0 into what a kind does not use. */
 typedef struct duart_event {
     uint8_t kind;
     uint8_t reg;
@@ -231,8 +437,8 @@ enum {
     DUART_REGISTER_ABOVE_15 = 2, /* register above 15 */
     DUART_FORBIDDEN_READ = 3,    /* read of register 2 or 10 */
     DUART_FORBIDDEN_COMMAND = 4, /* command whose bits 3-2 or 1-0 are 11 */
-    DUART_NOT_MODELLED = 5,      /* a write, or a frame request, that chooses a setting which is not modelled: MR1 bit 7 or bits
-                                    4-3 = 11, MR2 bit 5, OPCR bits 1-0 not 00 or bit 3 */
+    DUART_NOT_MODELLED = 5,      /* a write, or a frame request, that chooses a setting which is not modelled: MR1 bit 7
+                                    or bits 4-3 = 11, MR2 bit 5, OPCR bits 1-0 not 00 or bit 3 */
     DUART_NOT_ASSERTED = 6,      /* an acknowledge while IRQ is not asserted */
     DUART_NEW_UNSOUND = 7,       /* the new state would be unsound: proved never to be given */
     DUART_SPACE_SHORT = 8,       /* a frame request's space is shorter than the frame, or a poll's than its list */
@@ -242,14 +448,15 @@ enum {
 /*
  * What is seen of an answer. Refused: data 0, stale, and the lines as the device drives them (for 1, all lines 0).
  *
- * Order 1: "The receive buffer read shall also say fresh or stale: fresh exactly when RxRDY was set before it." RxRDY is bit 0 of
- * that channel's SR: MR1 bit 6 and the receiver's enable play no part. A fresh read took the byte, be it equal to the last or not; a
- * stale one repeats the last byte and changes nothing. A refused read and any other event are stale.
+ * Order 1: "The receive buffer read shall also say fresh or stale: fresh exactly when RxRDY was set before it." RxRDY
+ * is bit 0 of that channel's SR: MR1 bit 6 and the receiver's enable play no part. A fresh read took the byte, be it
+ * equal to the last or not; a stale one repeats the last byte and changes nothing. A refused read and any other event
+ * are stale.
  */
 typedef struct duart_seen {
     uint8_t number;
     uint8_t data; /* the data byte, 0 where none is read */
-    bool fresh;   /* an accepted read of register 3 or 11, and RxRDY of that channel was set before it */
+    bool fresh;   /* an accepted read of DUART_RBA or DUART_RBB, and RxRDY of that channel was set before it */
     bool irq;     /* asserted */
     bool txda;    /* the level of the pin: high in local loopback, what is echoed in the echo modes */
     bool txdb;
@@ -264,11 +471,10 @@ typedef struct duart_frame_answer {
 
 /* ---- a whole poll at once, and ticks until IRQ ---- */
 
-/* The limits of a poll's list and of a run's budget; both are still allowed. */
-enum {
-    DUART_MOST_EVENTS = 4096,
-    DUART_MOST_TICKS = 1000000
-};
+/* The limits of a poll's list and of a run's budget, both still allowed, and the longest frame. */
+#define DUART_MOST_EVENTS 4096
+#define DUART_MOST_TICKS 1000000
+#define DUART_MOST_LEVELS 192
 
 /* A poll's answer: the call's own number, and how many answers were written, 0 if it is refused. */
 typedef struct duart_polled {
@@ -286,6 +492,8 @@ typedef struct duart_ran {
     uint8_t op; /* bit n is the level of OPn */
 } duart_ran;
 
+/* ---- the six functions of the archive ---- */
+
 /* The state after a chip reset with all pins high. */
 duart_device duart_fresh(void);
 
@@ -293,38 +501,95 @@ duart_device duart_fresh(void);
 duart_seen duart_step(duart_device *device, duart_event event);
 
 /*
- * Takes the `count` events at `events`, up to DUART_MOST_EVENTS, in one call, "equal to the same events one by one" (order 5), and
- * writes their answers into the first of the `space` places at `answers`, which may be more. "It ends at the first refused event;
- * answers up to and including that one are written, later ones stay, the count says how many were written, and the call itself
- * answers 0." So a poll that went through has a count of `count` and a last answer whose number is 0; the lines stand in the last
- * answer. An empty list is answered 0 and alters nothing.
+ * Takes the `count` events at `events`, up to DUART_MOST_EVENTS, in one call, "equal to the same events one by one"
+ * (order 5), and writes their answers into the first of the `space` places at `answers`, which may be more. "It ends at
+ * the first refused event; answers up to and including that one are written, later ones stay, the count says how many
+ * were written, and the call itself answers 0." So a poll that went through has a count of `count` and a last answer
+ * whose number is 0; the lines stand in the last answer. An empty list is answered 0 and alters nothing.
  *
- * Refused, in this order and before any event: 1 the device is unsound, 8 `space` is below `count` (also where a refused event
- * would have ended the list within it), 9 the list is over its limit. Then nothing is written, the count is 0 and the device is as
- * it was. The pointers are not NULL, also where a count is 0; the two lists and the device do not overlap.
+ * Refused, in this order and before any event: 1 the device is unsound, 8 `space` is below `count` (also where a
+ * refused event would have ended the list within it), 9 the list is over its limit. Then nothing is written, the
+ * count is 0 and the device is as it was. The pointers are not NULL, also where a count is 0; the two lists and the
+ * device do not overlap.
  */
-duart_polled duart_poll(duart_device *device, const duart_event *events, size_t count, duart_seen *answers, size_t space);
+duart_polled duart_poll(duart_device *device, const duart_event *events, size_t count, duart_seen *answers,
+                        size_t space);
 
 /*
- * "runs ticks until IRQ is asserted or a budget of up to 1,000,000 is spent, and reports how many ticks it took: zero if IRQ is
- * asserted already, otherwise the number of single ticks to that state" (order 5). Device and lines are as after so many
- * DUART_TICK, stretches in which nothing happens being passed over. IRQ in the last tick of the budget, or not at all: the ticks
- * are the budget, and `irq` tells which. A budget of 0 takes no tick.
+ * "runs ticks until IRQ is asserted or a budget of up to 1,000,000 is spent, and reports how many ticks it took: zero
+ * if IRQ is asserted already, otherwise the number of single ticks to that state" (order 5). Device and lines are as
+ * after so many DUART_TICK, stretches in which nothing happens being passed over. IRQ in the last tick of the budget,
+ * or not at all: the ticks are the budget, and `irq` tells which. A budget of 0 takes no tick.
  *
- * Refused, in this order: 1 the device is unsound, 9 the budget is over DUART_MOST_TICKS (also where IRQ is asserted already).
- * Then the ticks are 0 and the device is as it was. examples/emulator.c is a main loop that goes by it.
+ * Refused, in this order: 1 the device is unsound, 9 the budget is over DUART_MOST_TICKS (also where IRQ is asserted
+ * already). Then the ticks are 0 and the device is as it was. examples/emulator.c is a main loop that goes by it.
  */
 duart_ran duart_run(duart_device *device, uint32_t budget);
 
 /*
- * Writes the levels of a frame, one byte 0 or 1 for each 16X pulse, at most 192, into the first bytes of the `size` bytes at
- * `space`; those past it stay. Refused (5, 8): length 0 and nothing written. `space` is not NULL, also where `size` is 0. MR2
- * bits 7-6 and 4, the mode and CTS, are allowed and not used.
+ * Writes the levels of a frame, one byte 0 or 1 for each 16X pulse, at most DUART_MOST_LEVELS, into the first bytes
+ * of the `size` bytes at `space`; those past it stay. Refused (5, 8): length 0 and nothing written. `space` is not
+ * NULL, also where `size` is 0. MR2 bits 7-6 and 4, the mode and CTS, are allowed and not used.
  */
 duart_frame_answer duart_frame(uint8_t mr1, uint8_t mr2, uint8_t byte, uint8_t *space, size_t size);
 
 /* Whether every field is in the range that docs/SOUND.md lists, with the rule on the waiting place. */
 bool duart_sound(duart_device device);
+
+/* ---- helpers ---- */
+
+/* Makes the state after a chip reset with all pins high. */
+static inline void duart_init(duart_device *device)
+{
+    *device = duart_fresh();
+}
+
+/* duart_sound() of a device that stays where it is. */
+static inline bool duart_is_sound(const duart_device *device)
+{
+    return duart_sound(*device);
+}
+
+/* An event of any kind; the makers below are of one kind each. */
+static inline duart_event duart_event_of(uint8_t kind, uint8_t reg, uint8_t byte)
+{
+    duart_event event;
+    event.kind = kind;
+    event.reg = reg;
+    event.byte = byte;
+    return event;
+}
+
+static inline duart_event duart_chip_reset(void)
+{
+    return duart_event_of(DUART_CHIP_RESET, 0, 0);
+}
+
+static inline duart_event duart_read(uint8_t reg)
+{
+    return duart_event_of(DUART_READ, reg, 0);
+}
+
+static inline duart_event duart_write(uint8_t reg, uint8_t byte)
+{
+    return duart_event_of(DUART_WRITE, reg, byte);
+}
+
+static inline duart_event duart_acknowledge(void)
+{
+    return duart_event_of(DUART_ACKNOWLEDGE, 0, 0);
+}
+
+/* The levels of all pins: DUART_IP0 to DUART_RXDB, or DUART_ALL_HIGH less some of them. */
+static inline duart_event duart_pins(uint8_t levels)
+{
+    return duart_event_of(DUART_PINS, 0, levels);
+}
+
+static inline duart_event duart_tick(void)
+{
+    return duart_event_of(DUART_TICK, 0, 0);
+}
 
 #ifdef __cplusplus
 }

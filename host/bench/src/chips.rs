@@ -75,7 +75,7 @@ impl Chip for duart::Duart {
             model::Event::Pins(levels) => duart::Event::Pins(levels),
             model::Event::Tick => duart::Event::Tick,
         };
-        let seen = duart::Duart::step(self, event);
+        let seen = self.step_raw(event);
         (seen.txda, seen.txdb, seen.data)
     }
 
@@ -87,12 +87,12 @@ impl Chip for duart::Duart {
         };
         static TICKS: [duart::EventRecord; MOST_EVENTS] = [TICK; MOST_EVENTS];
         let mut answers = [duart::Seen::default(); MOST_EVENTS];
-        let polled = self.poll(&TICKS[..ticks], &mut answers);
+        let polled = self.poll_raw(&TICKS[..ticks], &mut answers);
         (polled.count, answers[ticks - 1].txda)
     }
 
     fn run(&mut self, budget: u32) -> (u32, bool) {
-        let ran = self.run_until_irq(budget);
+        let ran = self.run_until_irq_raw(budget);
         (ran.ticks, ran.irq)
     }
 }

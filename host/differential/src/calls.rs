@@ -88,7 +88,7 @@ impl Trio {
     pub fn poll(&mut self, events: &[EventRecord], space: usize) -> Called<Poll> {
         let before = *self.chip.device();
         let (mut answers, mut expected) = (vec![UNTOUCHED; space], vec![UNTOUCHED; space]);
-        let polled = self.chip.poll(events, &mut answers);
+        let polled = self.chip.poll_raw(events, &mut answers);
         let wanted = poll_singly(&mut self.single, events, &mut expected);
         let fault = if polled != wanted {
             Some("the number or the count of a poll")
@@ -127,7 +127,7 @@ impl Trio {
 
     pub fn run(&mut self, budget: u32) -> Called<Ran> {
         let before = *self.chip.device();
-        let ran = self.chip.run_until_irq(budget);
+        let ran = self.chip.run_until_irq_raw(budget);
         let wanted = run_singly(&mut self.single, budget);
         let said = self.model.as_mut().map(|model| ran_of(model.run(budget)));
         let why = if ran != wanted {
@@ -175,7 +175,7 @@ fn poll_singly(chip: &mut Duart, events: &[EventRecord], answers: &mut [Seen]) -
 /// "zero if IRQ is asserted already, otherwise the number of single ticks to that state". The lines before any tick are those of
 /// a read that is always refused.
 fn run_singly(chip: &mut Duart, budget: u32) -> Ran {
-    let mut seen = chip.step(Event::Read(255));
+    let mut seen = chip.step_raw(Event::Read(255));
     let mut ticks = 0;
     let number = match seen.number {
         1 => 1,
@@ -183,7 +183,7 @@ fn run_singly(chip: &mut Duart, budget: u32) -> Ran {
         _ => 0,
     };
     while number == 0 && ticks < budget && !seen.irq {
-        seen = chip.step(Event::Tick);
+        seen = chip.step_raw(Event::Tick);
         ticks += 1;
     }
     let Seen { irq, txda, txdb, op, .. } = seen;

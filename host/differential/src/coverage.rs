@@ -204,7 +204,7 @@ mod tests {
     fn a_refused_read_is_counted_as_such_and_all_else_is_missing() {
         let mut chip = Duart::fresh();
         let before = *chip.device();
-        let seen = chip.step(Event::Read(2));
+        let seen = chip.step_raw(Event::Read(2));
         let mut coverage = Coverage::default();
         coverage.see(&before, Event::Read(2).into(), seen, chip.device());
         assert_eq!(coverage.events(), 1);
@@ -228,7 +228,7 @@ mod tests {
         ];
         for event in script {
             let before = *chip.device();
-            let seen = chip.step(event);
+            let seen = chip.step_raw(event);
             coverage.see(&before, event.into(), seen, chip.device());
         }
         let counted = &SIGHTS[Sight::FreshReads as usize..=Sight::StatusReadsReady as usize];

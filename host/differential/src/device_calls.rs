@@ -34,7 +34,7 @@ fn some_device(draws: &mut Generator) -> Device {
     if draws.flip() {
         device.front.timer.count = draws.below(40) as u16;
     }
-    let isr = Duart::from_device(device).step(Event::Read(5)).data;
+    let isr = Duart::from_device(device).step_raw(Event::Read(5)).data;
     match draws.below(8) {
         0 => {}
         1..=2 => device.front.imr = 0,

@@ -232,7 +232,7 @@ fn lines(seen: Seen) -> (bool, bool, bool, u8) {
 
 /// The lines as the device drives them, from a read that is always refused.
 fn lines_at_rest(device: &Device) -> (bool, bool, bool, u8) {
-    lines(Duart::from_device(*device).step(duart::Event::Read(255)))
+    lines(Duart::from_device(*device).step_raw(duart::Event::Read(255)))
 }
 
 #[cfg(test)]

@@ -80,7 +80,7 @@ fn try_spaces(draws: &mut Generator, mr1: u8, mr2: u8, byte: u8, length: usize) 
 
 fn compare(mr1: u8, mr2: u8, byte: u8, space: usize) -> Result<(), Failure> {
     let (mut written, mut expected) = ([UNTOUCHED; SPACE], [UNTOUCHED; SPACE]);
-    let chip = duart::frame(mr1, mr2, byte, &mut written[..space]);
+    let chip = duart::frame_raw(mr1, mr2, byte, &mut written[..space]);
     let model = model::frame(mr1, mr2, byte, &mut expected[..space]);
     let chip = (chip.number, chip.length);
     let model = (model.number, model.length);

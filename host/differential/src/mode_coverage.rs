@@ -219,7 +219,7 @@ mod tests {
         alter(&mut device);
         let mut chip = Duart::from_device(device);
         let mut coverage = Coverage::default();
-        let seen = chip.step(event);
+        let seen = chip.step_raw(event);
         coverage.see(&device, event.into(), seen, chip.device());
         let counted = SIGHTS[Sight::NormalAgain as usize..].iter();
         let counted = counted.filter(|(sight, _)| coverage.of(*sight) > 0);

@@ -185,7 +185,7 @@ mod tests {
         device.front.a.enabled = true;
         let event = Event::Write(0, mode::LOCAL_LOOPBACK);
         let mut chip = Duart::from_device(device);
-        let seen = chip.step(event);
+        let seen = chip.step_raw(event);
         let fault_of = |after| fault(&device, event.into(), seen, after);
         assert_eq!(fault_of(chip.device()), None);
         let mut after = *chip.device();

@@ -24,9 +24,9 @@ impl Pair {
     pub fn fresh() -> Pair {
         let chip = Duart::fresh();
         Pair {
+            before: *chip.device(),
             chip,
             model: model::Chip::fresh(),
-            before: *chip.device(),
             history: Vec::new(),
         }
     }

@@ -148,7 +148,7 @@ mod tests {
 
     #[test]
     fn an_answer_is_written_as_replay_prints_it() {
-        let seen = Duart::fresh().step(Event::Read(12));
+        let seen = Duart::fresh().step_raw(Event::Read(12));
         assert_eq!(answer(seen), "0 15 0 1 1 255 0");
         let fresh = Seen {
             fresh: true,

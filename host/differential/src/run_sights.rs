@@ -71,7 +71,7 @@ impl CallCoverage {
         self.note_if(moved && past, CallSight::RunPastThePeriod);
         self.note_if(moved && odd, CallSight::RunOddEcho);
         if stopped {
-            let isr = Duart::from_device(*after).step(Event::Read(5)).data;
+            let isr = Duart::from_device(*after).step_raw(Event::Read(5)).data;
             let bits = isr & after.front.imr;
             (0..7).for_each(|bit| self.stops[bit] += u64::from((bits >> bit) & 1));
         }
@@ -109,12 +109,12 @@ mod tests {
     fn coverage_of(budget: u32, alter: fn(&mut Device)) -> CallCoverage {
         let mut chip = Duart::fresh();
         for (register, byte) in [(7, 2), (4, 0x60), (5, 0x08)] {
-            chip.step(Event::Write(register, byte));
+            assert!(chip.step(Event::Write(register, byte)).is_ok());
         }
         let mut before = *chip.device();
         alter(&mut before);
         let mut chip = Duart::from_device(before);
-        let ran = chip.run_until_irq(budget);
+        let ran = chip.run_until_irq_raw(budget);
         let mut coverage = CallCoverage::default();
         coverage.see_run(&before, budget, ran, chip.device());
         coverage

@@ -276,7 +276,7 @@ mod tests {
 
     #[test]
     fn a_wire_pulls_its_own_pin_only() {
-        let mut seen = Duart::fresh().step(Event::Tick);
+        let mut seen = Duart::fresh().step_raw(Event::Tick);
         seen.txda = false;
         let wires = Wires {
             rxda: None,

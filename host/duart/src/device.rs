@@ -45,7 +45,7 @@ pub struct Setting {
 
 /// What a receiver does with its line.
 #[repr(C)]
-#[derive(Clone, Copy, Debug, PartialEq, Eq)]
+#[derive(Clone, Copy, PartialEq, Eq)]
 pub struct Sampler {
     /// 0 hunting, 1 from p to p+8, 2 a confirmed start under way, 3 after a low stop, 4 the wait for a break's end
     pub phase: u8,
@@ -119,7 +119,7 @@ pub struct Shifter {
 
 /// One channel's transmitter.
 #[repr(C)]
-#[derive(Clone, Copy, Debug, PartialEq, Eq)]
+#[derive(Clone, Copy, PartialEq, Eq)]
 pub struct Transmitter {
     pub enabled: bool,
     /// the holding place is full
@@ -215,7 +215,7 @@ pub struct Front {
 
 /// The whole chip.
 #[repr(C)]
-#[derive(Clone, Copy, Debug, PartialEq, Eq)]
+#[derive(Clone, Copy, PartialEq, Eq)]
 pub struct Device {
     pub front: Front,
     pub a: Receiver,

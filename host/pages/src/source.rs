@@ -57,6 +57,8 @@ fn is_source(path: &str) -> bool {
         "/gate-order",
         "/machine",
         "/cross-tools",
+        "/install",
+        "/dist",
     ];
     ends.iter().any(|end| path.ends_with(end))
 }

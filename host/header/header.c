@@ -1,26 +1,11 @@
 /*
- * What include/duart.h says of refusals, of the fields of a device and an answer, of the modes, of sound devices, of frame
- * requests, of polls and of runs, tried on the archive: no compiler holds the header to the proved source. Prints what it saw,
- * and ends with 0 if all was as it should be.
+ * What include/duart.h says of refusals, of the fields of a device and an answer, of the modes, of sound devices, of
+ * frame requests, of polls and of runs, tried on the archive: no compiler holds the header to the proved source. Prints
+ * what it saw, and ends with 0 if all was as it should be.
  */
-#include "duart.h"
+#include "tried.h"
 
-#include <stdio.h>
 #include <string.h>
-
-static duart_device chip;
-
-static duart_seen event(uint8_t kind, uint8_t reg, uint8_t byte)
-{
-    duart_event e = {kind, reg, byte};
-    return duart_step(&chip, e);
-}
-
-static int differs(const char *what, unsigned found, unsigned wanted)
-{
-    printf("%s: %u\n", what, found);
-    return found != wanted;
-}
 
 /* Each field of an answer where the others are of another value: IRQ by the byte that channel A holds, OP0 low. */
 static int answers(void)
@@ -28,12 +13,12 @@ static int answers(void)
     duart_seen seen;
     int wrong = 0;
 
-    wrong += differs("IMR", event(DUART_WRITE, 5, 0x02).number, DUART_ACCEPTED);
-    wrong += differs("set OP bit 0", event(DUART_WRITE, 14, 0x01).number, DUART_ACCEPTED);
+    wrong += differs("IMR", step(duart_write(DUART_IMR, DUART_ISR_RX_A)).number, DUART_ACCEPTED);
+    wrong += differs("set OP bit 0", step(duart_write(DUART_SET_OP, 0x01)).number, DUART_ACCEPTED);
     chip.a.queue.count = 2;
     chip.a.queue.first.byte = 42;
     chip.front.b.transmitter.txd = false;
-    seen = event(DUART_READ, 3, 0);
+    seen = step(duart_read(DUART_RBA));
     wrong += differs("number", seen.number, DUART_ACCEPTED);
     wrong += differs("data", seen.data, 42);
     wrong += differs("fresh", seen.fresh, 1);
@@ -41,9 +26,13 @@ static int answers(void)
     wrong += differs("txda", seen.txda, 1);
     wrong += differs("txdb", seen.txdb, 0);
     wrong += differs("op", seen.op, 0xfe);
-    wrong += differs("a status read is stale", event(DUART_READ, 1, 0).fresh, 0);
-    wrong += differs("a register above 15", event(DUART_READ, 19, 0).number, DUART_REGISTER_ABOVE_15);
-    wrong += differs("an unknown kind", event(99, 3, 0).number, DUART_REGISTER_ABOVE_15);
+    wrong += differs("a status read is stale", step(duart_read(DUART_SRA)).fresh, 0);
+    wrong += differs("a register above 15", step(duart_read(19)).number, DUART_REGISTER_ABOVE_15);
+    wrong += differs("an unknown kind", step(duart_event_of(99, DUART_RBA, 0)).number, DUART_REGISTER_ABOVE_15);
+    wrong += differs("a read of the command", step(duart_read(DUART_CRA)).number, DUART_FORBIDDEN_READ);
+    wrong += differs("enable and disable", step(duart_write(DUART_CRA, 0x03)).number, DUART_FORBIDDEN_COMMAND);
+    wrong += differs("a setting", step(duart_write(DUART_OPCR, 0x08)).number, DUART_NOT_MODELLED);
+    wrong += differs("the vector", step(duart_acknowledge()).data, 15);
     wrong += differs("bytes of an answer", (unsigned)sizeof seen, 7);
     return wrong;
 }
@@ -53,16 +42,19 @@ static int devices(void)
     int wrong = 0;
 
     wrong += differs("IMR's field", chip.front.imr, 0x02);
-    wrong += differs("IVR", event(DUART_WRITE, 12, 0x41).number, DUART_ACCEPTED);
-    wrong += differs("its field", chip.front.ivr, 0x41);
     wrong += differs("the last byte read", chip.a.last, 42);
+    wrong += differs("IVR", step(duart_write(DUART_IVR, 0x41)).number, DUART_ACCEPTED);
+    wrong += differs("its field", chip.front.ivr, 0x41);
+    wrong += differs("a chip reset", step(duart_chip_reset()).number, DUART_ACCEPTED);
+    wrong += differs("IVR then", chip.front.ivr, 15);
+    wrong += differs("an acknowledge then", step(duart_acknowledge()).number, DUART_NOT_ASSERTED);
     wrong += differs("bytes of a device", (unsigned)sizeof chip, 200);
-    wrong += differs("sound", duart_sound(chip), 1);
+    wrong += differs("sound", duart_is_sound(&chip), 1);
     chip.a.queue.count = 200;
-    wrong += differs("sound with 200 held", duart_sound(chip), 0);
-    wrong += differs("a tick then", event(DUART_TICK, 0, 0).number, DUART_UNSOUND);
-    wrong += differs("a read then", event(DUART_READ, 3, 0).number, DUART_UNSOUND);
-    wrong += differs("is stale", event(DUART_READ, 3, 0).fresh, 0);
+    wrong += differs("sound with 200 held", duart_is_sound(&chip), 0);
+    wrong += differs("a tick then", step(duart_tick()).number, DUART_UNSOUND);
+    wrong += differs("a read then", step(duart_read(DUART_RBA)).number, DUART_UNSOUND);
+    wrong += differs("is stale", step(duart_read(DUART_RBA)).fresh, 0);
     wrong += differs("still held", chip.a.queue.count, 200);
     return wrong;
 }
@@ -72,28 +64,28 @@ static int modes(void)
 {
     int wrong = 0;
 
-    chip = duart_fresh();
+    duart_init(&chip);
     wrong += differs("nothing echoed", chip.front.a.echo, 1);
     chip.front.a.enabled = true;
     chip.front.a.echo = false;
     chip.front.a.mr2 = DUART_AUTOMATIC_ECHO;
-    wrong += differs("txda, a low echoed", event(DUART_READ, 12, 0).txda, 0);
+    wrong += differs("txda, a low echoed", step(duart_read(DUART_IVR)).txda, 0);
     chip.front.a.mr2 = DUART_REMOTE_LOOPBACK;
-    wrong += differs("in remote loopback", event(DUART_READ, 12, 0).txda, 0);
+    wrong += differs("in remote loopback", step(duart_read(DUART_IVR)).txda, 0);
     chip.front.a.mr2 = DUART_LOCAL_LOOPBACK;
-    wrong += differs("in local loopback", event(DUART_READ, 12, 0).txda, 1);
+    wrong += differs("in local loopback", step(duart_read(DUART_IVR)).txda, 1);
     chip.front.a.moved = true;
-    wrong += differs("MR2 bit 5", event(DUART_WRITE, 0, 0x20).number, DUART_NOT_MODELLED);
-    wrong += differs("MR2 bits 7-6", event(DUART_WRITE, 0, DUART_REMOTE_LOOPBACK).number, DUART_ACCEPTED);
-    wrong += differs("sound", duart_sound(chip), 1);
+    wrong += differs("MR2 bit 5", step(duart_write(DUART_MRA, 0x20)).number, DUART_NOT_MODELLED);
+    wrong += differs("MR2 bits 7-6", step(duart_write(DUART_MRA, DUART_REMOTE_LOOPBACK)).number, DUART_ACCEPTED);
+    wrong += differs("sound", duart_is_sound(&chip), 1);
     chip.front.a.mr2 = 0x20;
-    wrong += differs("sound with MR2 bit 5", duart_sound(chip), 0);
+    wrong += differs("sound with MR2 bit 5", duart_is_sound(&chip), 0);
     return wrong;
 }
 
 static int frames(void)
 {
-    uint8_t levels[192];
+    uint8_t levels[DUART_MOST_LEVELS];
     duart_frame_answer frame;
     int wrong = 0;
 
@@ -115,13 +107,14 @@ static int frames(void)
 /* Refused before any event, ended by a refused one, and done to the end; `many` is a tick and chip resets. */
 static int polls(void)
 {
-    static const duart_event events[4] = {{DUART_WRITE, 12, 0x41}, {DUART_READ, 12, 0}, {DUART_READ, 2, 0}, {DUART_TICK, 0, 0}};
+    static const duart_event events[4] = {
+        {DUART_WRITE, DUART_IVR, 0x41}, {DUART_READ, DUART_IVR, 0}, {DUART_READ, DUART_CRA, 0}, {DUART_TICK, 0, 0}};
     static const duart_event many[DUART_MOST_EVENTS + 1] = {{DUART_TICK, 0, 0}};
     static duart_seen space[DUART_MOST_EVENTS + 1];
     duart_polled polled;
     int wrong = 0;
 
-    chip = duart_fresh();
+    duart_init(&chip);
     memset(space, 1, sizeof space);
     polled = duart_poll(&chip, events, 4, space, 3);
     wrong += differs("a poll with three places for four", polled.number, DUART_SPACE_SHORT);
@@ -156,11 +149,11 @@ static int runs(void)
     duart_ran ran;
     int wrong = 0;
 
-    chip = duart_fresh();
-    event(DUART_WRITE, 7, 2);
-    event(DUART_WRITE, 4, 0x60);
-    event(DUART_WRITE, 5, 0x08);
-    event(DUART_WRITE, 14, 0x01);
+    duart_init(&chip);
+    step(duart_write(DUART_CTLR, 2));
+    step(duart_write(DUART_ACR, DUART_ACR_TIMER_TICKS));
+    step(duart_write(DUART_IMR, DUART_ISR_COUNTER));
+    step(duart_write(DUART_SET_OP, 0x01));
     chip.front.b.transmitter.txd = false;
     ran = duart_run(&chip, 3);
     wrong += differs("a run of three ticks", ran.ticks, 3);
@@ -189,7 +182,7 @@ int main(void)
 {
     int wrong;
 
-    chip = duart_fresh();
+    duart_init(&chip);
     wrong = answers();
     wrong += devices();
     wrong += modes();
