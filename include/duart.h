@@ -1,7 +1,7 @@
 /*
  * The MC68681 serial chip (DUART), proved: what a board maker links.
  *
- * `rt staticlib duart` writes target/staticlib/libduart.a, which holds the six functions below. Each is proved to
+ * `rt staticlib duart` writes target/staticlib/libduart.a, which holds the seven functions below. Each is proved to
  * meet its contract (crates/duart/src/duart.rt) for every argument, so a caller owes no more than this:
  *
  *  - pointers lead to what they say, and are used by no other thread during the call;
@@ -14,7 +14,7 @@
  *
  * Nothing here allocates, blocks, keeps a pointer or holds state of its own: two devices are two chips.
  *
- * In this order: the structs of a device; the names of registers, bits and codes; events and answers; the six
+ * In this order: the structs of a device; the names of registers, bits and codes; events and answers; the seven
  * functions; helpers, which are written in C here and call those.
  */
 #ifndef DUART_H
@@ -27,6 +27,10 @@
 #ifdef __cplusplus
 extern "C" {
 #endif
+
+/* The number of the layout of what crosses: every landing that changes a struct below raises it. A program that was
+ * compiled against another header than the archive's sees it by duart_fits(). */
+#define DUART_ABI 1
 
 /* ---- counts: crystal ticks, 16X or 1X pulses and whole bits are three counts that the manual keeps apart ---- */
 
@@ -497,6 +501,9 @@ typedef struct duart_ran {
 /* The state after a chip reset with all pins high. */
 duart_device duart_fresh(void);
 
+/* DUART_ABI of the header that is the archive's own. */
+uint32_t duart_abi(void);
+
 /* Takes one event: the device holds the new state then, or is as it was where the number is not 0. */
 duart_seen duart_step(duart_device *device, duart_event event);
 
@@ -537,6 +544,12 @@ duart_frame_answer duart_frame(uint8_t mr1, uint8_t mr2, uint8_t byte, uint8_t *
 bool duart_sound(duart_device device);
 
 /* ---- helpers ---- */
+
+/* Whether this header is the archive's: to be asked once, at a program's start. */
+static inline bool duart_fits(void)
+{
+    return duart_abi() == DUART_ABI;
+}
 
 /* Makes the state after a chip reset with all pins high. */
 static inline void duart_init(duart_device *device)

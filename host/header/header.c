@@ -13,6 +13,7 @@ static int answers(void)
     duart_seen seen;
     int wrong = 0;
 
+    wrong += differs("the archive has this header's ABI number", duart_fits(), 1);
     wrong += differs("IMR", step(duart_write(DUART_IMR, DUART_ISR_RX_A)).number, DUART_ACCEPTED);
     wrong += differs("set OP bit 0", step(duart_write(DUART_SET_OP, 0x01)).number, DUART_ACCEPTED);
     chip.a.queue.count = 2;

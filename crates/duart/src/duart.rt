@@ -23,7 +23,7 @@ ghost use Rattle.chip_ticks.specs.Run.{runOf};
 ghost use Rattle.records.specs.Records.{eventOf};
 ghost use Rattle.request.specs.Request.{requestOf, spaceAfter};
 ghost use Rattle.poll.specs.Poll.{seenIn, polledOf, answersAfter};
-ghost use Rattle.duart.specs.Duart.{polledSeen, ranSeen};
+ghost use Rattle.duart.specs.Duart.{abiNumber, polledSeen, ranSeen};
 
 // order 5: "the count says how many were written, and the call itself answers 0", or why it is refused.
 #[repr(C)]
@@ -84,6 +84,17 @@ fn ran_seen(ran: Ran) -> RanSeen
         txdb: ran.lines.txdb,
         op: ran.lines.op,
     }
+}
+
+// The number of the layout of what crosses to C: every landing that changes a struct of it raises it.
+const ABI: u32 = 1;
+
+// So that a program that was compiled against another layout sees it at its start.
+#[no_mangle]
+pub extern "C" fn duart_abi() -> u32
+    ensures { λ r. ⌜ r ≡ abiNumber ⌝ }
+{
+    ABI
 }
 
 // "A fresh device is the state after a chip reset with all pins high."

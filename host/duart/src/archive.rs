@@ -1,16 +1,22 @@
-//! The six names of the archive, as include/duart.h declares them. No compiler checks these lines against the Rattle source;
+//! The seven names of the archive, as include/duart.h declares them. No compiler checks these lines against the Rattle source;
 //! the differential test would show where they differ.
 
 use crate::device::Device;
 use crate::{EventRecord, FrameAnswer, Polled, Ran, Seen};
 
 extern "C" {
+    fn duart_abi() -> u32;
     fn duart_fresh() -> Device;
     fn duart_step(device: *mut Device, event: EventRecord) -> Seen;
     fn duart_poll(device: *mut Device, events: *const EventRecord, count: usize, answers: *mut Seen, space: usize) -> Polled;
     fn duart_run(device: *mut Device, budget: u32) -> Ran;
     fn duart_frame(mr1: u8, mr2: u8, byte: u8, space: *mut u8, length: usize) -> FrameAnswer;
     fn duart_sound(device: Device) -> bool;
+}
+
+pub fn abi() -> u32 {
+    // SAFETY: it takes nothing and returns a number.
+    unsafe { duart_abi() }
 }
 
 pub fn fresh() -> Device {

@@ -61,8 +61,13 @@ pub struct Duart {
 
 impl Duart {
     /// The state after a chip reset with all pins high.
+    ///
+    /// # Panics
+    ///
+    /// Where the archive has another [`ABI`] number: its structs are others than those declared here.
     #[must_use]
     pub fn fresh() -> Duart {
+        assert_eq!(archive::abi(), ABI, "the archive was made for other declarations than these");
         Duart { device: archive::fresh() }
     }
 

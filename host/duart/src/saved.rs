@@ -13,8 +13,8 @@ use core::error::Error;
 #[cfg(all(not(core_error), feature = "std"))]
 use std::error::Error;
 
-/// The form of a device: another number is another form. For now it is said here; a proved constant that the archive
-/// exports is to replace it.
+/// The layout of what crosses to the archive and the form of a saved device: another number is another layout. The
+/// archive's own is a proved constant, and [`Duart::fresh`] compares the two.
 pub const ABI: u32 = 1;
 
 /// The ABI number's bytes.
