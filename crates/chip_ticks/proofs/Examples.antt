@@ -8,6 +8,7 @@ use Rattle.timer_state.specs.Counting.{freshTimer, withPreload, withCount, with
 use Rattle.front.specs.Front.{frontAt, withTimer, withRegisters}
 use Rattle.chip_device.specs.declared.device.Device.{Device}
 use Rattle.chip_device.specs.Device.{freshDevice}
+use Rattle.chip_device.proofs.Examples.{fiveFlags}
 use Rattle.chip_laws.proofs.Computing.{computing}
 use Rattle.chip_ticks.specs.Ticks.{spentOf}
 use Rattle.chip_ticks.specs.Run.{runRefusal, runOf}
@@ -42,3 +43,8 @@ not-three = (refl, refl)
 none-asserted : (runOf asserted 10 .ticks ≡ 0) × (runOf asserted 10 .lines .irq ≡ true)
 unfolding computing spentOf runRefusal runOf
 none-asserted = (refl, refl)
+
+-- "Refusals, in this order and before any event: 1, .. 9 for a .. budget over its limit"; "up to 1,000,000"
+refuses : (runRefusal fiveFlags 1000001 ≡ 1) × (runRefusal freshDevice 1000001 ≡ 9) × (runRefusal freshDevice 1000000 ≡ 0)
+unfolding computing runRefusal
+refuses = (refl, refl, refl)

@@ -8,3 +8,4 @@ pub mod Told
 pub mod Machine
 pub mod Walk
 mod ShutOut
+mod Examples

@@ -19,22 +19,22 @@ use Rattle.poll.specs.Poll.{pollRefusal, pollFrom, afterPoll, polledOf, 
 abbrev tick : EventRecord
 tick = record { kind = 5; reg = 0; byte = 0 }
 
-abbrev listed : List EventRecord
+abbrev pub listed : List EventRecord
 listed = tick ∷ record { kind = 1; reg = 2; byte = 0 } ∷ tick ∷ []
 
 -- a slot that no answer has written
 abbrev blank : Seen
 blank = record { number = 99; «data» = 99; fresh = true; irq = true; txda = false; txdb = false; op = 99 }
 
-abbrev space : List Seen
+abbrev pub space : List Seen
 space = blank ∷ blank ∷ blank ∷ blank ∷ []
 
 -- the number in a slot after the poll
-abbrev slot : Device → List EventRecord → ℕ → ℕ
+abbrev pub slot : Device → List EventRecord → ℕ → ℕ
 slot d es n = getD (answersAfter d es space) n blank .number
 
 -- the phase of ticks/16: how many ticks the device has had
-abbrev ticksIn : Device → ℕ
+abbrev pub ticksIn : Device → ℕ
 ticksIn d = d .front .timer .ticks .0
 
 -- "It ends at the first refused event": this one goes on after it
