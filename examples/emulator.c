@@ -1,7 +1,5 @@
-/*
- * An emulator's main loop (order 5): run until IRQ is asserted, acknowledge, serve, go on. Channel A sends to itself in
- * local loopback at 9,600 bits a second, and the timer beats every 5 ms. Ends with 0 if no byte and no beat was lost.
- */
+/* An emulator's main loop (order 5): run until IRQ is asserted, acknowledge, serve, go on. Channel A sends to itself in
+ * local loopback at 9,600 bits a second, and the timer beats every 5 ms. Ends with 0 if no byte and no beat is lost. */
 #include "duart.h"
 #include <stdio.h>
 
@@ -9,7 +7,6 @@
 #define COUNTDOWN 576 /* pulses of ticks/16; a beat is two countdowns */
 #define BYTES 240     /* more than beats in a second */
 #define VECTOR 0x41
-
 static const duart_event set_up[] = {
     {DUART_WRITE, DUART_MRA, DUART_MR1_8_BITS | DUART_MR1_NO_PARITY},
     {DUART_WRITE, DUART_MRA, DUART_LOCAL_LOOPBACK | DUART_MR2_STOP_1},
@@ -42,6 +39,9 @@ int main(void)
 {
     duart_seen seen[COUNT(set_up)];
     unsigned left = DUART_TICKS_A_SECOND; /* the ticks before something outside happens: here, the end */
+    if (!duart_fits()) {
+        return 1; /* this header is not the archive's */
+    }
     duart_init(&chip);
     wrong += duart_poll(&chip, set_up, COUNT(set_up), seen, COUNT(set_up)).count != COUNT(set_up);
     left -= duart_run(&chip, 24).ticks; /* a pulse: the receiver samples a high */

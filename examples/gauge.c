@@ -1,8 +1,6 @@
-/*
- * The driver of a height gauge on channel A, at 9,600 bits a second. It polls the receive buffer and adds up the
+/* The driver of a height gauge on channel A, at 9,600 bits a second. It polls the receive buffer and adds up the
  * offsets that are fresh: the byte alone does not tell a new offset from the last one, for two heights may be equal.
- * What the driver resets is gone: a tooth that is made again gets no offset of before. Ends with 0 if all was so.
- */
+ * What the driver resets is gone: a tooth that is made again gets no offset of before. Ends with 0 if all was so. */
 #include "duart.h"
 #include <stdio.h>
 
@@ -42,8 +40,10 @@ static void gauge_sends(duart_device *chip, unsigned offset)
 int main(void)
 {
     duart_device chip;
-    unsigned offset, wrong = set_up(&chip);
-
+    unsigned offset, wrong = 0;
+    if (!duart_fits() || set_up(&chip) != 0) {
+        return 1; /* this header is not the archive's, or a write was refused */
+    }
     gauge_sends(&chip, 42);
     gauge_sends(&chip, 42);
     wrong += poll_gauge(&chip) != 42 + 42; /* each once */

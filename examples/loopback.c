@@ -1,7 +1,5 @@
-/*
- * Order 2: "The controller refuses to home until local loopback works". The controller's start-up test: every byte goes
- * round in both channels, with no error, while TxDA and TxDB stay high. Ends with 0 if it did.
- */
+/* Order 2: "The controller refuses to home until local loopback works". The controller's start-up test: every byte goes
+ * round in both channels, with no error, while TxDA and TxDB stay high. Ends with 0 if it did. */
 #include "duart.h"
 #include <stdio.h>
 
@@ -44,6 +42,9 @@ int main(void)
     duart_device chip;
     unsigned byte, wrong = 0;
 
+    if (!duart_fits()) {
+        return 1; /* this header is not the archive's */
+    }
     duart_init(&chip);
     set_up(&chip, DUART_CHANNEL_A);
     set_up(&chip, DUART_CHANNEL_B);

@@ -36,6 +36,9 @@ int main(void)
     duart_ran ran;
     unsigned wrong = 0;
 
+    if (!duart_fits()) {
+        return 1; /* this header is not the archive's */
+    }
     set_up(&chip);
     wrong += turns(&chip, 15);
     wrong += turns(&chip, 19);

@@ -14,8 +14,8 @@
  *
  * Nothing here allocates, blocks, keeps a pointer or holds state of its own: two devices are two chips.
  *
- * In this order: the structs of a device; the names of registers, bits and codes; events and answers; the seven
- * functions; helpers, which are written in C here and call those.
+ * In this order: the structs of a device; the names of registers, bits and codes; events and answers; where each field
+ * lies; the seven functions; helpers, which are written in C here and call those.
  */
 #ifndef DUART_H
 #define DUART_H
@@ -196,9 +196,6 @@ typedef struct duart_device {
     duart_receiver a;
     duart_receiver b;
 } duart_device;
-
-/* Does not compile where structs are laid out otherwise than in the archive, say packed. */
-typedef char duart_device_is_200_bytes[sizeof(duart_device) == 200 ? 1 : -1];
 
 /* ---- the registers ---- */
 
@@ -496,7 +493,56 @@ typedef struct duart_ran {
     uint8_t op; /* bit n is the level of OPn */
 } duart_ran;
 
-/* ---- the six functions of the archive ---- */
+/* ---- where each field lies ---- */
+
+/* STRUCT(name, size) of each struct and FIELD(name, field, offset) of each of its fields, as they lie in the archive.
+ * Who declares them in another language may expand it to compare, as host/layout/layout.c does. */
+#define DUART_LAYOUT(STRUCT, FIELD) \
+    STRUCT(ticks, 8) FIELD(ticks, count, 0) \
+    STRUCT(pulses, 1) FIELD(pulses, count, 0) \
+    STRUCT(bits, 1) FIELD(bits, count, 0) \
+    STRUCT(format, 3) FIELD(format, width, 0) FIELD(format, parity, 1) FIELD(format, odd, 2) \
+    STRUCT(setting, 4) FIELD(setting, format, 0) FIELD(setting, sixteen, 3) \
+    STRUCT(sampler, 10) FIELD(sampler, phase, 0) FIELD(sampler, high, 1) FIELD(sampler, left, 2) \
+        FIELD(sampler, setting, 3) FIELD(sampler, taken, 7) FIELD(sampler, value, 8) \
+    STRUCT(marks, 3) FIELD(marks, broken, 0) FIELD(marks, framing, 1) FIELD(marks, parity, 2) \
+    STRUCT(character, 4) FIELD(character, byte, 0) FIELD(character, marks, 1) \
+    STRUCT(queue, 17) FIELD(queue, count, 0) FIELD(queue, first, 1) FIELD(queue, second, 5) FIELD(queue, third, 9) \
+        FIELD(queue, waiting, 13) \
+    STRUCT(receiver, 34) FIELD(receiver, sampler, 0) FIELD(receiver, queue, 10) FIELD(receiver, overrun, 27) \
+        FIELD(receiver, sums, 28) FIELD(receiver, change, 31) FIELD(receiver, last, 32) \
+    STRUCT(shifter, 6) FIELD(shifter, frame, 0) FIELD(shifter, sixteen, 2) FIELD(shifter, length, 3) \
+        FIELD(shifter, sent, 4) \
+    STRUCT(transmitter, 14) FIELD(transmitter, enabled, 0) FIELD(transmitter, full, 1) \
+        FIELD(transmitter, holding, 2) FIELD(transmitter, phase, 3) FIELD(transmitter, shifter, 4) \
+        FIELD(transmitter, left, 10) FIELD(transmitter, asked, 11) FIELD(transmitter, txd, 12) \
+    STRUCT(phases, 24) FIELD(phases, receiver, 0) FIELD(phases, transmitter, 8) FIELD(phases, sixteenths, 16) \
+    STRUCT(side, 48) FIELD(side, mr1, 0) FIELD(side, mr2, 1) FIELD(side, moved, 2) FIELD(side, csr, 3) \
+        FIELD(side, enabled, 4) FIELD(side, echo, 5) FIELD(side, transmitter, 6) FIELD(side, phases, 24) \
+    STRUCT(timer, 24) FIELD(timer, preload, 0) FIELD(timer, count, 2) FIELD(timer, running, 4) \
+        FIELD(timer, output, 5) FIELD(timer, ready, 6) FIELD(timer, ticks, 8) FIELD(timer, edges, 16) \
+    STRUCT(inputs, 2) FIELD(inputs, levels, 0) FIELD(inputs, changes, 1) \
+    STRUCT(outputs, 2) FIELD(outputs, bits, 0) FIELD(outputs, opcr, 1) \
+    STRUCT(front, 128) FIELD(front, a, 0) FIELD(front, b, 48) FIELD(front, timer, 96) FIELD(front, inputs, 120) \
+        FIELD(front, outputs, 122) FIELD(front, acr, 124) FIELD(front, imr, 125) FIELD(front, ivr, 126) \
+    STRUCT(device, 200) FIELD(device, front, 0) FIELD(device, a, 128) FIELD(device, b, 162) \
+    STRUCT(event, 3) FIELD(event, kind, 0) FIELD(event, reg, 1) FIELD(event, byte, 2) \
+    STRUCT(seen, 7) FIELD(seen, number, 0) FIELD(seen, data, 1) FIELD(seen, fresh, 2) FIELD(seen, irq, 3) \
+        FIELD(seen, txda, 4) FIELD(seen, txdb, 5) FIELD(seen, op, 6) \
+    STRUCT(frame_answer, 2) FIELD(frame_answer, number, 0) FIELD(frame_answer, length, 1) \
+    STRUCT(polled, 16) FIELD(polled, number, 0) FIELD(polled, count, 8) \
+    STRUCT(ran, 12) FIELD(ran, number, 0) FIELD(ran, ticks, 4) FIELD(ran, irq, 8) FIELD(ran, txda, 9) \
+        FIELD(ran, txdb, 10) FIELD(ran, op, 11)
+
+/* Does not compile where one lies otherwise, say packed, or where two fields of a struct are exchanged. */
+#define DUART_HAS_SIZE(name, size) typedef char duart_size_of_##name[sizeof(duart_##name) == (size) ? 1 : -1];
+#define DUART_LIES_AT(name, field, offset) \
+    typedef char duart_offset_of_##name##_##field[offsetof(duart_##name, field) == (offset) ? 1 : -1];
+DUART_LAYOUT(DUART_HAS_SIZE, DUART_LIES_AT)
+#undef DUART_HAS_SIZE
+#undef DUART_LIES_AT
+
+/* ---- the seven functions of the archive ---- */
 
 /* The state after a chip reset with all pins high. */
 duart_device duart_fresh(void);

@@ -1,9 +1,9 @@
 //! The proved MC68681 serial chip, for Rust.
 //!
 //! The archive `libduart.a` holds the chip as `rt staticlib duart` compiles it from the proved source; this crate
-//! declares its six names and gives them a safe face. What each call promises is the contract of the Rattle function of
-//! that name: every call on every device and every event ends with an answer, a refused event leaves the device as it
-//! was, and a refused frame request or poll leaves the space as it was.
+//! declares its seven names and gives them a safe face. What each call promises is the contract of the Rattle function
+//! of that name: every call on every device and every event ends with an answer, a refused event leaves the device as
+//! it was, and a refused frame request or poll leaves the space as it was.
 //!
 //! ```
 //! use duart::{Duart, Event, Refusal, Refused, Register};
@@ -20,7 +20,17 @@
 //!
 //! Each call that can be refused stands here twice: `step`, `poll`, `run_until_irq` and `frame` answer a [`Result`];
 //! `step_raw`, `poll_raw`, `run_until_irq_raw` and `frame_raw` the record as the archive gives it, whose number is 0
-//! where it is accepted.
+//! where it is accepted. The compiler warns where either is dropped:
+//!
+//! ```compile_fail
+//! #![deny(unused_must_use)]
+//! duart::Duart::fresh().step(duart::Event::Tick);
+//! ```
+//!
+//! ```compile_fail
+//! #![deny(unused_must_use)]
+//! duart::Duart::fresh().step_raw(duart::Event::Tick);
+//! ```
 //!
 //! The crate needs `core` alone, and no allocator. Its errors are `core::error::Error`; a rustc before 1.81 has no such
 //! thing, and there the feature `std`, which is on by default, makes them `std`'s.
@@ -36,6 +46,7 @@ mod calls;
 mod debug;
 pub mod device;
 mod event;
+mod layout;
 pub mod mode;
 mod refusal;
 mod register;
@@ -64,16 +75,22 @@ impl Duart {
     ///
     /// # Panics
     ///
-    /// Where the archive has another [`ABI`] number: its structs are others than those declared here.
+    /// Where the archive has another [`ABI`] number, as each maker of a chip does: its structs are others than those
+    /// declared here.
     #[must_use]
     pub fn fresh() -> Duart {
-        assert_eq!(archive::abi(), ABI, "the archive was made for other declarations than these");
+        assert_fits();
         Duart { device: archive::fresh() }
     }
 
     /// A chip in any state whatever. Where the state is unsound, each event is answered 1 and alters nothing.
+    ///
+    /// # Panics
+    ///
+    /// As [`Duart::fresh`].
     #[must_use]
     pub fn from_device(device: Device) -> Duart {
+        assert_fits();
         Duart { device }
     }
 
@@ -105,6 +122,11 @@ impl Duart {
     pub fn is_sound(&self) -> bool {
         self.device.is_sound()
     }
+}
+
+/// Compares the archive's number of the layout with that of the declarations here, before a struct crosses.
+fn assert_fits() {
+    assert_eq!(archive::abi(), ABI, "the archive was made for other declarations than these");
 }
 
 impl Default for Duart {

@@ -14,7 +14,7 @@ use core::error::Error;
 use std::error::Error;
 
 /// The layout of what crosses to the archive and the form of a saved device: another number is another layout. The
-/// archive's own is a proved constant, and [`Duart::fresh`] compares the two.
+/// archive's own is a proved constant, and whatever makes a chip compares the two ([`Duart::fresh`]).
 pub const ABI: u32 = 1;
 
 /// The ABI number's bytes.
@@ -78,6 +78,10 @@ impl Duart {
     }
 
     /// The chip that was saved. The bytes may be from anywhere: what is not a sound device of this ABI is refused.
+    ///
+    /// # Panics
+    ///
+    /// As [`Duart::fresh`]: bytes of this ABI and an archive of another.
     pub fn restore(bytes: &[u8]) -> Result<Duart, NotRestored> {
         let number = bytes.get(..NUMBER_BYTES).and_then(|number| number.try_into().ok()).map(u32::from_le_bytes);
         match number {
@@ -95,7 +99,7 @@ impl Duart {
 
 /// The device, sound or not.
 fn device_in(bytes: &[u8; SAVED_BYTES]) -> Result<Device, NotRestored> {
-    let mut device = crate::archive::fresh();
+    let mut device = *Duart::fresh().device();
     device.walk(&mut Reading { bytes, place: NUMBER_BYTES })?;
     Ok(device)
 }
