@@ -25,7 +25,7 @@ fn send(chip: &mut Duart, offset: u8) -> Result<(), Refused> {
     (0..10).try_for_each(|bit| hold(chip, (bits >> bit) & 1 == 1))
 }
 
-fn write(chip: &mut Duart, register: Register, byte: u8) -> Result<(), Refused> {
+fn write(chip: &mut Duart, register: Register, byte: impl Into<u8>) -> Result<(), Refused> {
     chip.step(Event::write(register, byte)).map(|_| ())
 }
 

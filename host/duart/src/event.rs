@@ -24,10 +24,10 @@ impl Event {
         Event::Read(register.number())
     }
 
-    /// `Event::write(Register::IVR, 0x41)` is `Event::Write(12, 0x41)`.
+    /// `Event::write(Register::IVR, 0x41)` is `Event::Write(12, 0x41)`. It takes a byte, or [bits](crate::bits).
     #[must_use]
-    pub const fn write(register: Register, byte: u8) -> Event {
-        Event::Write(register.number(), byte)
+    pub fn write(register: Register, byte: impl Into<u8>) -> Event {
+        Event::Write(register.number(), byte.into())
     }
 }
 

@@ -9,7 +9,7 @@
 /// # fn main() -> Result<(), Refused> {
 /// let mut chip = Duart::fresh();
 /// chip.step(Event::write(Register::CRA, command::ENABLE_TRANSMITTER))?;
-/// assert_eq!(chip.step(Event::read(Register::SRA))?.data, sr::TX_EMT | sr::TX_RDY);
+/// assert!((sr::TX_EMT | sr::TX_RDY).are_in(chip.step(Event::read(Register::SRA))?.data));
 /// # Ok(())
 /// # }
 /// ```
@@ -91,7 +91,7 @@ mod tests {
     use crate::bits::{acr, command, ipcr, isr, opcr, sr};
     use crate::{Duart, Event, EventRecord};
 
-    fn write(chip: &mut Duart, register: Register, byte: u8) {
+    fn write(chip: &mut Duart, register: Register, byte: impl Into<u8>) {
         assert!(chip.step(Event::write(register, byte)).is_ok(), "{register:?}");
     }
 
@@ -148,8 +148,8 @@ mod tests {
         assert_eq!((front.a.transmitter.holding, front.b.transmitter.holding), (0x2a, 0x2b));
         assert_eq!(read(&mut chip, Register::SRA), 0, "the holding place is full");
         write(&mut chip, Register::CRB, command::RESET_TRANSMITTER | command::ENABLE_TRANSMITTER);
-        assert_eq!(read(&mut chip, Register::SRB), sr::TX_EMT | sr::TX_RDY);
-        assert_eq!(read(&mut chip, Register::ISR), isr::TX_RDY_B);
+        assert_eq!(read(&mut chip, Register::SRB), (sr::TX_EMT | sr::TX_RDY).byte());
+        assert_eq!(read(&mut chip, Register::ISR), isr::TX_RDY_B.byte());
         write(&mut chip, Register::CRA, command::POINT_TO_MR1);
         assert!(!chip.device().front.a.moved);
     }
@@ -164,12 +164,12 @@ mod tests {
         let lines = [(); 4].map(|()| chip.step_raw(Event::Tick).op & 0x08 != 0);
         assert_eq!(lines, [true, false, false, true], "OP3 is the timer output");
         assert_eq!((read(&mut chip, Register::CUR), read(&mut chip, Register::CLR)), (0, 2));
-        assert_eq!(read(&mut chip, Register::ISR), isr::COUNTER);
+        assert_eq!(read(&mut chip, Register::ISR), isr::COUNTER.byte());
         assert_eq!((read(&mut chip, Register::STOP_COUNTER), read(&mut chip, Register::ISR)), (0, 0));
         assert!(chip.step(Event::Pins(0xfd)).is_ok());
         assert_eq!(read(&mut chip, Register::IP), 0xfd);
-        assert_eq!(read(&mut chip, Register::ISR), isr::INPUT_CHANGE);
-        assert_eq!(read(&mut chip, Register::IPCR), ipcr::CHANGE_IP1 | 0x0d);
+        assert_eq!(read(&mut chip, Register::ISR), isr::INPUT_CHANGE.byte());
+        assert_eq!(read(&mut chip, Register::IPCR), (ipcr::CHANGE_IP1 | ipcr::IP3 | ipcr::IP2 | ipcr::IP0).byte());
         assert_eq!(read(&mut chip, Register::IPCR), 0x0d, "a read clears the flags");
     }
 }

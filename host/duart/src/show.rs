@@ -55,8 +55,8 @@ fn write_read(to: &mut Formatter, device: &Device, name: &str, register: Registe
 }
 
 fn write_timer(to: &mut Formatter, control: u8, timer: &Timer) -> Result {
-    let mode = acr::MODES[usize::from((control & acr::MODE) >> 4)];
-    let rates = u8::from(control & acr::RATES_1 != 0);
+    let mode = acr::MODES[usize::from((control & acr::MODE.byte()) >> 4)];
+    let rates = u8::from(acr::RATES_1.are_in(control));
     let running = if timer.running { "running" } else { "stopped" };
     let ready = if timer.ready { ", ISR bit 3 set" } else { "" };
     write!(to, "ACR {control:02x}: {mode}, rates {rates}; preload {}, count {}, ", timer.preload, timer.count)?;
@@ -80,7 +80,7 @@ const B: Channel =
 
 fn write_channel(to: &mut Formatter, device: &Device, channel: &Channel) -> Result {
     let (side, letter) = ((channel.side)(device), channel.letter);
-    let mode = match side.mr2 & mr2::MODE {
+    let mode = match side.mr2 & mr2::MODE.byte() {
         mode::NORMAL => "normal",
         mode::AUTOMATIC_ECHO => "automatic echo",
         mode::LOCAL_LOOPBACK => "local loopback",
@@ -164,7 +164,7 @@ fn level(high: bool) -> &'static str {
 mod tests {
     use crate::bits::{acr, command, isr, mr1, mr2};
     use crate::saved::tests::wild;
-    use crate::{mode, Duart, Event, Register};
+    use crate::{Duart, Event, Register};
 
     const FRESH: &str = "\
 MC68681, sound
@@ -189,16 +189,16 @@ channel B, normal: MR1B 00, MR2B 00, pointer at MR1B, CSRB 00, SRB 00
     #[test]
     fn a_chip_at_work() {
         let mut chip = Duart::fresh();
-        for (register, byte) in [
-            (Register::MRB, mr1::NO_PARITY | mr1::DATA_BITS_8),
-            (Register::MRB, mode::LOCAL_LOOPBACK | mr2::ONE_STOP_BIT),
-            (Register::CSRB, 0xff),
-            (Register::CRB, command::ENABLE_TRANSMITTER | command::ENABLE_RECEIVER),
-            (Register::ACR, acr::TIMER_TICKS_16),
-            (Register::IMR, isr::RX_B | isr::COUNTER),
-            (Register::CRA, command::ENABLE_TRANSMITTER),
+        for event in [
+            Event::write(Register::MRB, mr1::NO_PARITY | mr1::DATA_BITS_8),
+            Event::write(Register::MRB, mr2::LOCAL_LOOPBACK | mr2::ONE_STOP_BIT),
+            Event::write(Register::CSRB, 0xff),
+            Event::write(Register::CRB, command::ENABLE_TRANSMITTER | command::ENABLE_RECEIVER),
+            Event::write(Register::ACR, acr::TIMER_TICKS_16),
+            Event::write(Register::IMR, isr::RX_B | isr::COUNTER),
+            Event::write(Register::CRA, command::ENABLE_TRANSMITTER),
         ] {
-            assert!(chip.step(Event::write(register, byte)).is_ok());
+            assert!(chip.step(event).is_ok());
         }
         for place in 0..29 {
             assert!(chip.step(Event::Pins(0xdf)).is_ok() && chip.step(Event::Pins(0xff)).is_ok());

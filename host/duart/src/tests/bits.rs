@@ -17,7 +17,7 @@ fn read(set: Set, register: Register) -> u8 {
 
 #[test]
 fn of_sr() {
-    let rows: [(Set, u8); 7] = [
+    let rows: [(Set, sr::Bits); 7] = [
         (|device| device.a.queue.count = 1, sr::RX_RDY),
         (|device| device.a.queue.count = 3, sr::RX_RDY | sr::FFULL),
         (|device| device.a.overrun = true, sr::OVERRUN),
@@ -27,31 +27,35 @@ fn of_sr() {
         (|device| device.front.a.transmitter.enabled = true, sr::TX_RDY | sr::TX_EMT),
     ];
     for (set, bits) in rows {
-        assert_eq!((read(set, Register::SRA), read(set, Register::SRB)), (bits, 0));
+        assert_eq!((read(set, Register::SRA), read(set, Register::SRB)), (bits.byte(), 0));
     }
     let sending: Set = |device| (device.front.b.transmitter.enabled, device.front.b.transmitter.phase) = (true, 1);
-    assert_eq!(read(sending, Register::SRB), sr::TX_RDY);
+    assert_eq!(read(sending, Register::SRB), sr::TX_RDY.byte());
 }
 
 #[test]
 fn of_isr_and_opcr() {
-    let rows: [(Set, u8, u8); 8] = [
-        (|device| device.front.a.transmitter.enabled = true, isr::TX_RDY_A, opcr::OP6_TX_RDY_A),
-        (|device| device.front.b.transmitter.enabled = true, isr::TX_RDY_B, opcr::OP7_TX_RDY_B),
-        (|device| device.a.queue.count = 1, isr::RX_A, opcr::OP4_RX_A),
-        (|device| device.b.queue.count = 1, isr::RX_B, opcr::OP5_RX_B),
-        (|device| device.a.change = true, isr::BREAK_CHANGE_A, 0),
-        (|device| device.b.change = true, isr::BREAK_CHANGE_B, 0),
-        (|device| device.front.timer.ready = true, isr::COUNTER, 0),
-        (|device| (device.front.inputs.changes, device.front.acr) = (4, acr::CHANGE_IP2), isr::INPUT_CHANGE, 0),
+    let rows: [(Set, isr::Bits, Option<opcr::Bits>); 8] = [
+        (|device| device.front.a.transmitter.enabled = true, isr::TX_RDY_A, Some(opcr::OP6_TX_RDY_A)),
+        (|device| device.front.b.transmitter.enabled = true, isr::TX_RDY_B, Some(opcr::OP7_TX_RDY_B)),
+        (|device| device.a.queue.count = 1, isr::RX_A, Some(opcr::OP4_RX_A)),
+        (|device| device.b.queue.count = 1, isr::RX_B, Some(opcr::OP5_RX_B)),
+        (|device| device.a.change = true, isr::BREAK_CHANGE_A, None),
+        (|device| device.b.change = true, isr::BREAK_CHANGE_B, None),
+        (|device| device.front.timer.ready = true, isr::COUNTER, None),
+        (
+            |device| (device.front.inputs.changes, device.front.acr) = (4, acr::CHANGE_IP2.byte()),
+            isr::INPUT_CHANGE,
+            None,
+        ),
     ];
     let chosen = opcr::OP7_TX_RDY_B | opcr::OP6_TX_RDY_A | opcr::OP5_RX_B | opcr::OP4_RX_A;
     for (set, bit, pin) in rows {
-        assert_eq!(read(set, Register::ISR), bit);
+        assert_eq!(read(set, Register::ISR), bit.byte());
         let seen = with(set).step(Event::write(Register::OPCR, chosen)).expect("a modelled OPCR");
-        assert_eq!(seen.op, !pin, "the pin is low where ISR bit {bit:02x} is set");
+        assert_eq!(seen.op, !pin.map_or(0, opcr::Bits::byte), "the pin is low where {bit:?} of ISR is set");
     }
-    let full: Set = |device| (device.front.a.mr1, device.a.queue.count) = (mr1::FFULL_INTERRUPT, 2);
+    let full: Set = |device| (device.front.a.mr1, device.a.queue.count) = (mr1::FFULL_INTERRUPT.byte(), 2);
     assert_eq!(read(full, Register::ISR), 0);
 }
 
@@ -59,35 +63,39 @@ fn of_isr_and_opcr() {
 #[test]
 fn of_mr1_and_mr2() {
     let mut levels = [9; 192];
-    let mut length = |mr1: u8, mr2: u8| frame(mr1, mr2, 0, &mut levels).expect("a modelled setting");
+    let mut length =
+        |mr1: mr1::Bits, mr2: mr2::Bits| frame(mr1.byte(), mr2.byte(), 0, &mut levels).expect("a modelled setting");
     let widths = [mr1::DATA_BITS_5, mr1::DATA_BITS_6, mr1::DATA_BITS_7, mr1::DATA_BITS_8];
     for (more, width) in widths.into_iter().enumerate().skip(1) {
         assert_eq!(length(mr1::NO_PARITY | width, mr2::ONE_STOP_BIT), 16 * (1 + 5 + more + 1));
         assert_eq!(length(mr1::WITH_PARITY | width, mr2::TWO_STOP_BITS), 16 * (1 + 5 + more + 1 + 2));
     }
     assert_eq!(length(mr1::NO_PARITY | mr1::DATA_BITS_5, mr2::ONE_STOP_BIT), 16 * (1 + 5) + 24);
-    let mut parity_bit = |mr1: u8| {
-        frame(mr1 | mr1::DATA_BITS_8, mr2::ONE_STOP_BIT, 0x01, &mut levels).expect("a modelled setting");
+    let mut parity_bit = |parity: mr1::Bits| {
+        let mr1 = parity | mr1::DATA_BITS_8;
+        frame(mr1.byte(), mr2::ONE_STOP_BIT.byte(), 0x01, &mut levels).expect("a modelled setting");
         levels[9 * 16]
     };
     assert_eq!((parity_bit(mr1::WITH_PARITY), parity_bit(mr1::WITH_PARITY | mr1::ODD)), (1, 0));
     assert_eq!((parity_bit(mr1::FORCED_PARITY), parity_bit(mr1::FORCED_PARITY | mr1::ODD)), (0, 1));
-    let modes = [mode::NORMAL, mode::AUTOMATIC_ECHO, mode::LOCAL_LOOPBACK, mode::REMOTE_LOOPBACK];
-    assert_eq!(modes.into_iter().fold(0, |all, mode| all | mode), mr2::MODE);
-    assert_eq!((mr2::MODE | mr2::CTS | mr2::STOP_CODE, mr1::BLOCK_ERRORS), (0xdf, 0x20));
+    let modes = [mr2::NORMAL, mr2::AUTOMATIC_ECHO, mr2::LOCAL_LOOPBACK, mr2::REMOTE_LOOPBACK];
+    let bytes = [mode::NORMAL, mode::AUTOMATIC_ECHO, mode::LOCAL_LOOPBACK, mode::REMOTE_LOOPBACK];
+    assert_eq!(modes.map(mr2::Bits::byte), bytes);
+    assert_eq!(modes.into_iter().fold(mr2::NORMAL, mr2::Bits::or), mr2::MODE);
+    assert_eq!(((mr2::MODE | mr2::CTS | mr2::STOP_CODE).byte(), mr1::BLOCK_ERRORS.byte()), (0xdf, 0x20));
 }
 
 #[test]
 fn of_block_errors_and_cts() {
-    let block: Set = |device| (device.front.a.mr1, device.a.sums.parity) = (mr1::BLOCK_ERRORS, true);
-    assert_eq!(read(block, Register::SRA), sr::PARITY);
-    let set: Set = |device| (device.front.a.mr2, device.front.a.csr) = (mr2::CTS, 0xff);
+    let block: Set = |device| (device.front.a.mr1, device.a.sums.parity) = (mr1::BLOCK_ERRORS.byte(), true);
+    assert_eq!(read(block, Register::SRA), sr::PARITY.byte());
+    let set: Set = |device| (device.front.a.mr2, device.front.a.csr) = (mr2::CTS.byte(), 0xff);
     let mut chip = with(set);
-    let starts = [pins::IP0, 0].map(|level| {
+    let starts = [pins::IP0.byte(), 0].map(|level| {
         for event in [
             Event::write(Register::CRA, command::RESET_TRANSMITTER | command::ENABLE_TRANSMITTER),
             Event::write(Register::TBA, 0),
-            Event::Pins(pins::IP3 | level),
+            Event::Pins(pins::IP3.byte() | level),
             Event::Pins(level),
         ] {
             assert!(chip.step(event).is_ok());
@@ -104,9 +112,9 @@ fn of_commands() {
         (device.front.a.moved, device.front.a.enabled, device.front.a.transmitter.enabled) = (true, true, true);
         (device.a.queue.count, device.a.overrun, device.a.change) = (2, true, true);
     };
-    let left = |byte: u8| {
+    let left = |command: command::Bits| {
         let mut chip = with(all);
-        assert!(chip.step(Event::write(Register::CRA, byte)).is_ok());
+        assert!(chip.step(Event::write(Register::CRA, command)).is_ok());
         let (side, receiver) = (&chip.device().front.a, &chip.device().a);
         let held = [receiver.queue.count > 0, receiver.overrun, receiver.change];
         ([side.moved, side.enabled, side.transmitter.enabled], held, side.transmitter.asked)
@@ -131,9 +139,10 @@ fn of_acr() {
         (0..times).for_each(|_| assert!(chip.step(event).is_ok()));
         chip.device().front.timer.count
     };
-    let counts = |byte: u8| {
+    let counts = |mode: acr::Bits| {
         let mut chip = with(|device| device.front.timer.preload = 9);
-        let start = [Event::write(Register::ACR, byte), Event::read(Register::START_COUNTER), Event::Pins(!pins::IP2)];
+        let start =
+            [Event::write(Register::ACR, mode), Event::read(Register::START_COUNTER), Event::Pins(!pins::IP2.byte())];
         start.into_iter().for_each(|event| assert!(chip.step(event).is_ok()));
         let ticks = [pulse(&mut chip, Event::Tick, 1), pulse(&mut chip, Event::Tick, 15)];
         (ticks, pulse(&mut chip, Event::Pins(0xff), 1))
@@ -146,6 +155,14 @@ fn of_acr() {
     assert_eq!(counts(acr::TIMER_TICKS_16), ([9, 8], 8));
     assert_eq!([acr::COUNTER_TXCA, acr::COUNTER_TXCB].map(counts), [([9, 9], 9); 2]);
     let changes = [acr::CHANGE_IP0, acr::CHANGE_IP1, acr::CHANGE_IP2, acr::CHANGE_IP3];
-    assert_eq!(changes, [pins::IP0, pins::IP1, pins::IP2, pins::IP3]);
-    assert_eq!(acr::MODE | acr::RATES_1 | 0x0f, 0xff);
+    let pins = [pins::IP0, pins::IP1, pins::IP2, pins::IP3];
+    assert_eq!(changes.map(acr::Bits::byte), pins.map(pins::Bits::byte));
+    assert_eq!((acr::MODE | acr::RATES_1).byte(), 0xf0);
+}
+
+#[test]
+fn bits_of_one_register_go_together() {
+    const BOTH: sr::Bits = sr::BREAK.or(sr::FRAMING);
+    assert_eq!((BOTH, u8::from(BOTH)), (sr::FRAMING | sr::BREAK, 0xc0));
+    assert!(BOTH.are_in(0xd1) && !BOTH.are_in(0x91) && sr::BREAK.are_in(0x91));
 }
