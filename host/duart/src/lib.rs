@@ -75,8 +75,8 @@ impl Duart {
     ///
     /// # Panics
     ///
-    /// Where the archive has another [`ABI`] number, as each maker of a chip does: its structs are others than those
-    /// declared here.
+    /// Where the archive has another [`ABI`] number, as each maker of a chip does, and each call that needs none
+    /// ([`frame`], [`Device::is_sound`]): its structs are others than those declared here.
     #[must_use]
     pub fn fresh() -> Duart {
         assert_fits();
@@ -138,6 +138,10 @@ impl Default for Duart {
 /// Writes the levels of a frame, one byte 0 or 1 for each 16X pulse, over the front of `space`, and answers how many. A
 /// refused request (5, 8) writes nothing. MR2 bits 7-6 and 4, the mode and CTS, are allowed and not used.
 ///
+/// # Panics
+///
+/// As [`Duart::fresh`].
+///
 /// ```
 /// use duart::{frame, Refusal};
 ///
@@ -155,8 +159,13 @@ pub fn frame(mr1: u8, mr2: u8, byte: u8, space: &mut [u8]) -> Result<usize, Refu
 }
 
 /// The same, answered by the record.
+///
+/// # Panics
+///
+/// As [`Duart::fresh`].
 #[must_use = "its number says whether the request was refused"]
 pub fn frame_raw(mr1: u8, mr2: u8, byte: u8, space: &mut [u8]) -> FrameAnswer {
+    assert_fits();
     archive::frame(mr1, mr2, byte, space)
 }
 

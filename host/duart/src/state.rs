@@ -66,8 +66,13 @@ impl Transmitter {
 
 impl Device {
     /// Every field in the range that docs/SOUND.md lists, and the rule on the waiting place.
+    ///
+    /// # Panics
+    ///
+    /// As [`Duart::fresh`](crate::Duart::fresh).
     #[must_use]
     pub fn is_sound(&self) -> bool {
+        crate::assert_fits();
         crate::archive::sound(*self)
     }
 }
