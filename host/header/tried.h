@@ -8,7 +8,7 @@
 
 static duart_device chip;
 
-static duart_seen step(duart_event event)
+static inline duart_seen step(duart_event event)
 {
     return duart_step(&chip, event);
 }

@@ -107,6 +107,21 @@ mod tests {
         assert_eq!(u8::from(Register::RBB), 11);
     }
 
+    #[test]
+    fn the_names_count_up() {
+        let first = [Register::MRA, Register::SRA, Register::CRA, Register::RBA, Register::IPCR, Register::ISR];
+        assert_eq!(first.map(u8::from), [0, 1, 2, 3, 4, 5]);
+        let next = [Register::CUR, Register::CLR, Register::MRB, Register::SRB, Register::CRB, Register::RBB];
+        assert_eq!(next.map(u8::from), [6, 7, 8, 9, 10, 11]);
+        let last = [Register::IVR, Register::IP, Register::START_COUNTER, Register::STOP_COUNTER];
+        assert_eq!(last.map(u8::from), [12, 13, 14, 15]);
+        let written = [Register::CSRA, Register::TBA, Register::ACR, Register::IMR, Register::CTUR, Register::CTLR];
+        assert_eq!(written.map(u8::from), [1, 3, 4, 5, 6, 7]);
+        let written = [Register::CSRB, Register::TBB, Register::OPCR].map(u8::from);
+        assert_eq!(written, [9, 11, 13]);
+        assert_eq!([Register::SET_OUTPUT_BITS, Register::RESET_OUTPUT_BITS].map(u8::from), [14, 15]);
+    }
+
     /// What is written stands in the field of that name.
     #[test]
     fn a_write_goes_where_its_name_says() {

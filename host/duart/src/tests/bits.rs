@@ -1,6 +1,6 @@
 //! Each bit's name, asked of the archive: a device with that one thing set, and what a register or a pin then shows.
 
-use crate::bits::{acr, command, isr, mr1, mr2, opcr, pins, sr};
+use crate::bits::{acr, command, ipcr, isr, mr1, mr2, opcr, pins, sr};
 use crate::{frame, mode, Device, Duart, Event, Register};
 
 type Set = fn(&mut Device);
@@ -165,4 +165,68 @@ fn bits_of_one_register_go_together() {
     const BOTH: sr::Bits = sr::BREAK.or(sr::FRAMING);
     assert_eq!((BOTH, u8::from(BOTH)), (sr::FRAMING | sr::BREAK, 0xc0));
     assert!(BOTH.are_in(0xd1) && !BOTH.are_in(0x91) && sr::BREAK.are_in(0x91));
+}
+
+/// In document 01's order bits are one each and codes count up. What a name does may hide a bit too many in it.
+#[test]
+fn each_list_has_document_01s_numbers() {
+    let one_each = [0, 1, 2, 3, 4, 5, 6, 7].map(|bit| 1 << bit);
+    let nibbles = [0x00, 0x10, 0x20, 0x30, 0x40, 0x50, 0x60, 0x70];
+    let bits = {
+        use sr::*;
+        [RX_RDY, FFULL, TX_RDY, TX_EMT, OVERRUN, PARITY, FRAMING, BREAK].map(Bits::byte)
+    };
+    assert_eq!(bits, one_each);
+    let bits = {
+        use isr::*;
+        [TX_RDY_A, RX_A, BREAK_CHANGE_A, COUNTER, TX_RDY_B, RX_B, BREAK_CHANGE_B, INPUT_CHANGE].map(Bits::byte)
+    };
+    assert_eq!(bits, one_each);
+    let bits = {
+        use ipcr::*;
+        [IP0, IP1, IP2, IP3, CHANGE_IP0, CHANGE_IP1, CHANGE_IP2, CHANGE_IP3].map(Bits::byte)
+    };
+    assert_eq!(bits, one_each);
+    let bits = {
+        use pins::*;
+        [IP0, IP1, IP2, IP3, IP4, IP5, RXDA, RXDB].map(Bits::byte)
+    };
+    assert_eq!(bits, one_each);
+    let (modes, others) = {
+        use acr::*;
+        let counters = [COUNTER_IP2, COUNTER_TXCA, COUNTER_TXCB, COUNTER_TICKS_16].map(Bits::byte);
+        let timers = [TIMER_IP2, TIMER_IP2_16, TIMER_TICKS, TIMER_TICKS_16].map(Bits::byte);
+        let others = [CHANGE_IP0, CHANGE_IP1, CHANGE_IP2, CHANGE_IP3, MODE, RATES_1].map(Bits::byte);
+        ([counters, timers].concat(), others)
+    };
+    assert_eq!((modes, others), (nibbles.to_vec(), [0x01, 0x02, 0x04, 0x08, 0x70, 0x80]));
+}
+
+#[test]
+fn each_list_of_what_is_written_has_document_01s_numbers() {
+    let (first, then) = {
+        use command::*;
+        let first = [POINT_TO_MR1, RESET_RECEIVER, RESET_TRANSMITTER, RESET_ERRORS, RESET_BREAK_CHANGE];
+        let breaks = [START_BREAK, STOP_BREAK].map(Bits::byte);
+        let then = [ENABLE_RECEIVER, DISABLE_RECEIVER, ENABLE_TRANSMITTER, DISABLE_TRANSMITTER].map(Bits::byte);
+        ((first.map(Bits::byte), breaks), then)
+    };
+    assert_eq!((first, then), (([0x10, 0x20, 0x30, 0x40, 0x50], [0x60, 0x70]), [1, 2, 4, 8]));
+    let (widths, others) = {
+        use mr1::*;
+        let others = [WITH_PARITY, ODD, FORCED_PARITY, NO_PARITY, BLOCK_ERRORS, FFULL_INTERRUPT].map(Bits::byte);
+        ([DATA_BITS_5, DATA_BITS_6, DATA_BITS_7, DATA_BITS_8].map(Bits::byte), others)
+    };
+    assert_eq!((widths, others), ([0, 1, 2, 3], [0x00, 0x04, 0x08, 0x10, 0x20, 0x40]));
+    let (modes, others) = {
+        use mr2::*;
+        let modes = [NORMAL, AUTOMATIC_ECHO, LOCAL_LOOPBACK, REMOTE_LOOPBACK, MODE].map(Bits::byte);
+        (modes, [CTS, ONE_STOP_BIT, TWO_STOP_BITS, STOP_CODE].map(Bits::byte))
+    };
+    assert_eq!((modes, others), ([0x00, 0x40, 0x80, 0xc0, 0xc0], [0x10, 0x07, 0x0f, 0x0f]));
+    let bits = {
+        use opcr::*;
+        [OP3_TIMER, OP4_RX_A, OP5_RX_B, OP6_TX_RDY_A, OP7_TX_RDY_B].map(Bits::byte)
+    };
+    assert_eq!(bits, [0x04, 0x10, 0x20, 0x40, 0x80]);
 }
