@@ -1,7 +1,7 @@
 /*
  * The MC68681 serial chip (DUART), proved: what a board maker links.
  *
- * `rt staticlib duart` writes target/staticlib/libduart.a, which holds the seven functions below. Each is proved to
+ * `rt staticlib duart` writes target/staticlib/libduart.a, which holds the eight functions below. Each is proved to
  * meet its contract (crates/duart/src/duart.rt) for every argument, so a caller owes no more than this:
  *
  *  - pointers lead to what they say, and are used by no other thread during the call;
@@ -15,7 +15,7 @@
  * Nothing here allocates, blocks, keeps a pointer or holds state of its own: two devices are two chips.
  *
  * In this order: the structs of a device; the names of registers, bits and codes; events and answers; where each field
- * lies; the seven functions; helpers, which are written in C here and call those.
+ * lies; the eight functions; helpers, which are written in C here and call those.
  */
 #ifndef DUART_H
 #define DUART_H
@@ -442,8 +442,9 @@ enum {
                                     or bits 4-3 = 11, MR2 bit 5, OPCR bits 1-0 not 00 or bit 3 */
     DUART_NOT_ASSERTED = 6,      /* an acknowledge while IRQ is not asserted */
     DUART_NEW_UNSOUND = 7,       /* the new state would be unsound: proved never to be given */
-    DUART_SPACE_SHORT = 8,       /* a frame request's space is shorter than the frame, or a poll's than its list */
-    DUART_OVER_LIMIT = 9         /* a poll's list, or a run's budget, is over its limit */
+    DUART_SPACE_SHORT = 8,       /* a frame request's space is shorter than the frame, a poll's than its list, or a
+                                    dump's than its text */
+    DUART_OVER_LIMIT = 9         /* a poll's or a dump's list, or a run's budget, is over its limit */
 };
 
 /*
@@ -493,6 +494,19 @@ typedef struct duart_ran {
     uint8_t op; /* bit n is the level of OPn */
 } duart_ran;
 
+/* ---- a value change dump ---- */
+
+/* The limit of a dump's list, still allowed; and so many bytes are enough for the text of `count` events, whatever they
+ * are: 336 of the lines before time 0, 36 of time 0, and for each tick at most 11 of its time and 33 of its values. */
+#define DUART_MOST_DUMPED 1000000
+#define DUART_DUMP_SPACE(count) (336 + 36 + (11 + 33) * (size_t)(count))
+
+/* A dump's answer: the number, and how many bytes of text were written, 0 if it is refused. */
+typedef struct duart_dump_answer {
+    uint8_t number;
+    size_t length;
+} duart_dump_answer;
+
 /* ---- where each field lies ---- */
 
 /* STRUCT(name, size) of each struct and FIELD(name, field, offset) of each of its fields, as they lie in the archive.
@@ -532,7 +546,8 @@ typedef struct duart_ran {
     STRUCT(frame_answer, 2) FIELD(frame_answer, number, 0) FIELD(frame_answer, length, 1) \
     STRUCT(polled, 16) FIELD(polled, number, 0) FIELD(polled, count, 8) \
     STRUCT(ran, 12) FIELD(ran, number, 0) FIELD(ran, ticks, 4) FIELD(ran, irq, 8) FIELD(ran, txda, 9) \
-        FIELD(ran, txdb, 10) FIELD(ran, op, 11)
+        FIELD(ran, txdb, 10) FIELD(ran, op, 11) \
+    STRUCT(dump_answer, 16) FIELD(dump_answer, number, 0) FIELD(dump_answer, length, 8)
 
 /* Does not compile where one lies otherwise, say packed, or where two fields of a struct are exchanged. */
 #define DUART_HAS_SIZE(name, size) typedef char duart_size_of_##name[sizeof(duart_##name) == (size) ? 1 : -1];
@@ -542,7 +557,7 @@ DUART_LAYOUT(DUART_HAS_SIZE, DUART_LIES_AT)
 #undef DUART_HAS_SIZE
 #undef DUART_LIES_AT
 
-/* ---- the seven functions of the archive ---- */
+/* ---- the eight functions of the archive ---- */
 
 /* The state after a chip reset with all pins high. */
 duart_device duart_fresh(void);
@@ -588,6 +603,11 @@ duart_frame_answer duart_frame(uint8_t mr1, uint8_t mr2, uint8_t byte, uint8_t *
 
 /* Whether every field is in the range that docs/SOUND.md lists, with the rule on the waiting place. */
 bool duart_sound(duart_device device);
+
+/* duart_dump(), which has the words for it, of a list that is handed over as bytes: `kind`, `reg` and `byte` of each
+ * event, one event after the other. A rest of one or two bytes is no event. */
+duart_dump_answer duart_dump_bytes(duart_device device, const uint8_t *events, size_t events_size, uint8_t *space,
+                                   size_t size);
 
 /* ---- helpers ---- */
 
@@ -648,6 +668,31 @@ static inline duart_event duart_pins(uint8_t levels)
 static inline duart_event duart_tick(void)
 {
     return duart_event_of(DUART_TICK, 0, 0);
+}
+
+/*
+ * What a logic analyser would show of this device taking the `count` events at `events`, up to DUART_MOST_DUMPED: "a
+ * value change dump (IEEE 1364)" of "TxDA, TxDB, IRQ as line level (asserted is 0) and OP0 to OP7, all values at time
+ * 0, then only times with changes" (order 6), which GTKWave and sigrok read. It is written into the first of the `size`
+ * bytes at `space`; those past it stay, and no zero byte ends it. The device is taken by value and not altered.
+ *
+ * Times are in nanoseconds: "Tick n, from 1, stands at the whole part of n x 625,000 / 2,304 ns", n counting the ticks
+ * of this list. "Events without a tick share the time of the last one; at each time only the last values count, written
+ * where they differ from those written before." Those before the first tick stand at time 0. The text ends with the
+ * last change: where the level after it is to be seen, let some change follow, say of an OP pin, as examples/dump.c
+ * does.
+ *
+ * "It stops before a refused event": the text is that of the list cut there, and the number is 0. Refused, in this
+ * order: 1 the device is unsound, 9 the list is over its limit, 8 `size` is below the length of this very text
+ * (DUART_DUMP_SPACE(count) is always enough). Then the length is 0 and `space` is as it was. The pointers are not NULL,
+ * also where a count or a size is 0; the list and the space do not overlap.
+ */
+static inline duart_dump_answer duart_dump(duart_device device, const duart_event *events, size_t count, uint8_t *space,
+                                           size_t size)
+{
+    /* a longer list is refused before any of it is read: one event too many says as much, and 3 times that is a size */
+    size_t most = count <= DUART_MOST_DUMPED ? count : DUART_MOST_DUMPED + 1;
+    return duart_dump_bytes(device, (const uint8_t *)events, 3 * most, space, size);
 }
 
 #ifdef __cplusplus

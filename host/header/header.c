@@ -1,7 +1,7 @@
 /*
  * What include/duart.h says of refusals, of the fields of a device and an answer, of the modes, of sound devices, of
- * frame requests, of polls and of runs, tried on the archive: no compiler holds the header to the proved source. Prints
- * what it saw, and ends with 0 if all was as it should be.
+ * frame requests, of polls, of runs and of dumps, tried on the archive: no compiler holds the header to the proved
+ * source. Prints what it saw, and ends with 0 if all was as it should be.
  */
 #include "tried.h"
 
@@ -179,6 +179,45 @@ static int runs(void)
     return wrong;
 }
 
+/* A tick, OP0 and OP7 low, and a refused read that ends it; then lists at the limit and over it, `many` being chip resets. */
+static int dumps(void)
+{
+    static const duart_event events[4] = {
+        {DUART_TICK, 0, 0}, {DUART_WRITE, DUART_SET_OP, 0x81}, {DUART_READ, DUART_CRA, 0}, {DUART_TICK, 0, 0}};
+    static const char changes[] = "\n1+\n#271\n0$\n0+\n";
+    static duart_event many[DUART_MOST_DUMPED + 1];
+    uint8_t space[DUART_DUMP_SPACE(4)];
+    duart_dump_answer dump;
+    int wrong = 0;
+
+    duart_init(&chip);
+    memset(space, 7, sizeof space);
+    dump = duart_dump(chip, events, 4, space, 382);
+    wrong += differs("a dump with a byte too little", dump.number, DUART_SPACE_SHORT);
+    wrong += differs("its length", (unsigned)dump.length, 0);
+    wrong += differs("nothing is written", space[0] + space[381], 14);
+    dump = duart_dump(chip, events, 4, space, 383);
+    wrong += differs("a dump that a refused read ends", dump.number, DUART_ACCEPTED);
+    wrong += differs("its length", (unsigned)dump.length, 383);
+    wrong += differs("its last lines", memcmp(space + 383 - strlen(changes), changes, strlen(changes)) == 0, 1);
+    wrong += differs("the space past it", space[383], 7);
+    wrong += differs("the device is as it was", chip.front.outputs.bits, 0);
+    dump = duart_dump_bytes(chip, (const uint8_t *)events, 5, space, sizeof space);
+    wrong += differs("a tick and two bytes, the length", (unsigned)dump.length, (unsigned)DUART_DUMP_SPACE(0));
+    wrong += differs("a tick's time and its values, at most", (unsigned)(DUART_DUMP_SPACE(1) - DUART_DUMP_SPACE(0)), 44);
+    dump = duart_dump(chip, many, DUART_MOST_DUMPED, space, sizeof space);
+    wrong += differs("a dump of 1000000, its length", (unsigned)dump.length, 372);
+    dump = duart_dump(chip, many, DUART_MOST_DUMPED + 1, space, sizeof space);
+    wrong += differs("a dump of 1000001", dump.number, DUART_OVER_LIMIT);
+    dump = duart_dump(chip, many, SIZE_MAX / 3 + 1, space, 0);
+    wrong += differs("a dump of more than a size holds the bytes of", dump.number, DUART_OVER_LIMIT);
+    chip.a.queue.count = 200;
+    dump = duart_dump(chip, many, DUART_MOST_DUMPED + 1, space, 0);
+    wrong += differs("a dump of an unsound device", dump.number, DUART_UNSOUND);
+    wrong += differs("bytes of its answer", (unsigned)sizeof dump, 16);
+    return wrong;
+}
+
 int main(void)
 {
     int wrong;
@@ -190,5 +229,6 @@ int main(void)
     wrong += frames();
     wrong += polls();
     wrong += runs();
+    wrong += dumps();
     return wrong == 0 ? 0 : 1;
 }

@@ -15,6 +15,8 @@ use records::Seen;
 use records::event_of;
 use request::FrameAnswer;
 use request::request_frame;
+use vcd_dump::DumpAnswer;
+use vcd_dump::dump;
 ghost use mathlib.Core.Path.{_≡_};
 ghost use lib.ListN.{length};
 ghost use Rattle.chip_device.specs.Device.{freshDevice, isSoundOf};
@@ -23,6 +25,7 @@ ghost use Rattle.chip_ticks.specs.Run.{runOf};
 ghost use Rattle.records.specs.Records.{eventOf};
 ghost use Rattle.request.specs.Request.{requestOf, spaceAfter};
 ghost use Rattle.poll.specs.Poll.{seenIn, polledOf, answersAfter};
+ghost use Rattle.vcd_dump.specs.Dump as Dump;
 ghost use Rattle.duart.specs.Duart.{abiNumber, polledSeen, ranSeen};
 
 // order 5: "the count says how many were written, and the call itself answers 0", or why it is refused.
@@ -158,6 +161,16 @@ pub extern "C" fn duart_frame(mr1: u8, mr2: u8, byte: u8, space: &mut [u8]) -> F
     ensures space { λ _. ⌜ now (space .exit) ≡ spaceAfter mr1 mr2 byte (now (space .entry)) ⌝ }
 {
     request_frame(mr1, mr2, byte, space)
+}
+
+// order 6: "From a sound state and a list of up to 1,000,000 events, write a value change dump (IEEE 1364) into lent space". The
+// list lies as bytes, three to an event record; include/duart.h has `duart_dump` over it, for a list of records.
+#[no_mangle]
+pub extern "C" fn duart_dump_bytes(device: Device, events: &[u8], space: &mut [u8]) -> DumpAnswer
+    ensures answer { λ r. ⌜ r ≡ Dump.dumpedOf device (now (events .entry)) (length (now (space .entry))) ⌝ }
+    ensures space { λ _. ⌜ now (space .exit) ≡ Dump.spaceAfter device (now (events .entry)) (now (space .entry)) ⌝ }
+{
+    dump(device, events, space)
 }
 
 // docs/SOUND.md lists the ranges.

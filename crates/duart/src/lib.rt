@@ -4,6 +4,7 @@ mod duart;
 pub use duart::PolledSeen;
 pub use duart::RanSeen;
 pub use duart::duart_abi;
+pub use duart::duart_dump_bytes;
 pub use duart::duart_frame;
 pub use duart::duart_fresh;
 pub use duart::duart_poll;

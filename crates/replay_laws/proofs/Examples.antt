@@ -7,7 +7,9 @@ use Rattle.format.specs.Pick.{pick}
 use Rattle.events.specs.declared.events.Event.the-variants.{ChipReset, Read, Write, Acknowledge, Pins}
 use Rattle.replay_script.specs.declared.lines.Line.the-variants.{Skipped, Wrong, Ticks, One}
 use Rattle.replay_script.specs.Script.{piecesOf, fullOf, sameOf, hashOf, allDigits, valueFrom, said, meantOf, lineOf, resetText, readText, writeText, ackText, pinsText, tickText}
-use Rattle.replay_text.specs.Text.{decimalOf, seenText, errorText}
+use Rattle.text.specs.Bytes.{bytesOf}
+use Rattle.text.specs.Decimal.{decimalOf}
+use Rattle.replay_text.specs.Lines.{seenText, errorText}
 
 -- one name for what the examples unfold: it says nothing by itself
 unfoldable computing : Bool
@@ -174,5 +176,5 @@ seen = refl
 error-last :
     errorText 18446744073709551615
     ≡ 101 ∷ 114 ∷ 114 ∷ 111 ∷ 114 ∷ 32 ∷ 108 ∷ 105 ∷ 110 ∷ 101 ∷ 32 ∷ 49 ∷ 56 ∷ 52 ∷ 52 ∷ 54 ∷ 55 ∷ 52 ∷ 52 ∷ 48 ∷ 55 ∷ 51 ∷ 55 ∷ 48 ∷ 57 ∷ 53 ∷ 53 ∷ 49 ∷ 54 ∷ 49 ∷ 53 ∷ 10 ∷ []
-unfolding decimalOf pick
+unfolding decimalOf pick errorText bytesOf
 error-last = refl

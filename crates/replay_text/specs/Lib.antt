@@ -1,2 +1,2 @@
 -- What a reader must believe of the text that is printed.
-pub mod Text
+pub mod Lines

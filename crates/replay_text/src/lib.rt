@@ -1,5 +1,5 @@
-// The text of what the program `replay` prints: an answer, or that a line cannot be read.
-mod text;
+// The text of what the program `replay` prints of an answer, and what it and `dump` print where a line cannot be read.
+mod lines;
 
-pub use text::write_error;
-pub use text::write_seen;
+pub use lines::write_error;
+pub use lines::write_seen;

@@ -12,6 +12,8 @@ pub const PLAIN: &str = "plain";
 
 /// A chip: the events of the model, and what it answers, as far as the wiring asks.
 pub trait Chip {
+    /// Events as it takes them in a list.
+    type List;
     fn fresh() -> Self;
     /// TxDA, TxDB and the data byte of the answer.
     fn step(&mut self, event: model::Event) -> (bool, bool, u8);
@@ -19,6 +21,9 @@ pub trait Chip {
     fn poll_ticks(&mut self, ticks: usize) -> (usize, bool);
     /// The ticks of a run with this budget, and IRQ.
     fn run(&mut self, budget: u32) -> (u32, bool);
+    fn list(events: &[model::Event]) -> Self::List;
+    /// A dump of the first events of a list, and its length.
+    fn dump(&self, list: &Self::List, events: usize, space: &mut [u8]) -> usize;
 }
 
 /// A value that the compiler knows nothing of: as on a board, the event is not known beforehand and the whole answer is
@@ -30,6 +35,8 @@ fn unknown<T: Copy>(value: T) -> T {
 }
 
 impl Chip for model::Chip {
+    type List = Vec<model::Event>;
+
     fn fresh() -> model::Chip {
         model::Chip::fresh()
     }
@@ -59,23 +66,38 @@ impl Chip for model::Chip {
         let ran = unknown(model::Chip::run(self, unknown(budget)));
         (ran.ticks, ran.irq)
     }
+
+    fn list(events: &[model::Event]) -> Vec<model::Event> {
+        events.to_vec()
+    }
+
+    fn dump(&self, list: &Vec<model::Event>, events: usize, space: &mut [u8]) -> usize {
+        let dumped = model::Chip::dump(self, unknown(&list[..events]), space);
+        assert_eq!(dumped.number, 0);
+        dumped.length
+    }
+}
+
+fn proved_event(event: model::Event) -> duart::Event {
+    match event {
+        model::Event::ChipReset => duart::Event::ChipReset,
+        model::Event::Read(register) => duart::Event::Read(register),
+        model::Event::Write(register, byte) => duart::Event::Write(register, byte),
+        model::Event::Acknowledge => duart::Event::Acknowledge,
+        model::Event::Pins(levels) => duart::Event::Pins(levels),
+        model::Event::Tick => duart::Event::Tick,
+    }
 }
 
 impl Chip for duart::Duart {
+    type List = Vec<duart::EventRecord>;
+
     fn fresh() -> duart::Duart {
         duart::Duart::fresh()
     }
 
     fn step(&mut self, event: model::Event) -> (bool, bool, u8) {
-        let event = match event {
-            model::Event::ChipReset => duart::Event::ChipReset,
-            model::Event::Read(register) => duart::Event::Read(register),
-            model::Event::Write(register, byte) => duart::Event::Write(register, byte),
-            model::Event::Acknowledge => duart::Event::Acknowledge,
-            model::Event::Pins(levels) => duart::Event::Pins(levels),
-            model::Event::Tick => duart::Event::Tick,
-        };
-        let seen = self.step_raw(event);
+        let seen = self.step_raw(proved_event(event));
         (seen.txda, seen.txdb, seen.data)
     }
 
@@ -94,5 +116,15 @@ impl Chip for duart::Duart {
     fn run(&mut self, budget: u32) -> (u32, bool) {
         let ran = self.run_until_irq_raw(budget);
         (ran.ticks, ran.irq)
+    }
+
+    fn list(events: &[model::Event]) -> Vec<duart::EventRecord> {
+        events.iter().map(|event| proved_event(*event).into()).collect()
+    }
+
+    fn dump(&self, list: &Vec<duart::EventRecord>, events: usize, space: &mut [u8]) -> usize {
+        let dumped = self.dump_raw(&list[..events], space);
+        assert_eq!(dumped.number, 0);
+        dumped.length
     }
 }

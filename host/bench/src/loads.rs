@@ -1,6 +1,7 @@
 //! What the chips are given to do.
 
 use crate::chips::{Chip, MOST_EVENTS, PLAIN, PROVED};
+use crate::dumping::{Work, FRAME_EVENTS};
 
 /// What a chip does while it is measured.
 #[derive(Clone, Copy)]
@@ -15,10 +16,19 @@ pub enum Load {
     RunFresh,
     /// Order 5: runs with both channels sending and receiving at 9,600 bits a second.
     Run9600,
+    /// Order 6: the dump of a list with both channels sending and receiving at 9,600 bits a second. All but 14 of 3,854
+    /// events are ticks, and each is counted as one.
+    Dump,
+}
+
+/// A chip that is ready for a load, and the list of its dump.
+pub struct Ready<C: Chip> {
+    pub chip: C,
+    work: Work<C>,
 }
 
 impl Load {
-    pub const ALL: [Load; 5] = [Load::Idle, Load::Busy, Load::Poll, Load::RunFresh, Load::Run9600];
+    pub const ALL: [Load; 6] = [Load::Idle, Load::Busy, Load::Poll, Load::RunFresh, Load::Run9600, Load::Dump];
 
     pub fn name(self) -> &'static str {
         match self {
@@ -27,13 +37,14 @@ impl Load {
             Load::Poll => "poll",
             Load::RunFresh => "run-fresh",
             Load::Run9600 => "run-9600",
+            Load::Dump => "dump",
         }
     }
 
     /// A run passes over most ticks, so its instructions are counted for a thousand of them.
     pub fn ticks_counted(self) -> u64 {
         match self {
-            Load::Idle | Load::Busy | Load::Poll => 1,
+            Load::Idle | Load::Busy | Load::Poll | Load::Dump => 1,
             Load::RunFresh | Load::Run9600 => 1_000,
         }
     }
@@ -46,36 +57,45 @@ impl Load {
     }
 
     /// The ticks of two runs whose instructions are counted. Between them is a whole number of what comes again: a frame of 11
-    /// bits at 38,400 bits a second, in which a character comes; a poll of 4,096; ten periods of code 0; two frames at 9,600.
-    /// More say nothing more, and the emulator's log has a line for each instruction.
+    /// bits at 38,400 bits a second, in which a character comes; a poll of 4,096; ten periods of code 0; two frames at 9,600,
+    /// and eight of a dump, so that one shows whose cost grows with its text. More say nothing more, and the emulator's log
+    /// has a line for each instruction.
     pub fn spans(self) -> [u32; 2] {
         match self {
             Load::Idle | Load::Busy => [528, 1_584],
             Load::Poll => [1, 1 + 4_096],
             Load::RunFresh => [4_608, 11 * 4_608],
             Load::Run9600 => [2 * FRAME_9600, 4 * FRAME_9600],
+            Load::Dump => [2 * FRAME_EVENTS, 10 * FRAME_EVENTS],
         }
     }
 
-    /// A chip that is ready for it.
-    pub fn ready<C: Chip>(self) -> C {
+    /// A chip that is ready for up to so many ticks of it. A list is made for both runs that are counted, so that the making
+    /// of it does not count.
+    pub fn ready<C: Chip>(self, ticks: u32) -> Ready<C> {
         let mut chip = C::fresh();
         match self {
             Load::Busy => prepare(&mut chip),
-            Load::Run9600 => prepare_9600(&mut chip),
+            Load::Run9600 | Load::Dump => prepare_9600(&mut chip),
             Load::Idle | Load::Poll | Load::RunFresh => {}
         }
-        chip
+        let work = match self {
+            Load::Dump => Work::of(ticks.max(self.spans()[1])),
+            _ => Work::none(),
+        };
+        Ready { chip, work }
     }
 
     /// So many ticks of it, and a sum over what was seen.
-    pub fn run<C: Chip>(self, chip: &mut C, ticks: u32) -> u64 {
+    pub fn run<C: Chip>(self, ready: &mut Ready<C>, ticks: u32) -> u64 {
+        let Ready { chip, work } = ready;
         match self {
             Load::Idle => idle(chip, ticks),
             Load::Busy => busy(chip, ticks),
             Load::Poll => poll(chip, ticks),
             Load::RunFresh => run_fresh(chip, ticks),
             Load::Run9600 => run_9600(chip, ticks),
+            Load::Dump => work.dump(chip, ticks),
         }
     }
 }
@@ -85,8 +105,8 @@ pub fn run(chip: &str, load: &str, ticks: &str) -> Option<u64> {
     let load = Load::ALL.into_iter().find(|known| known.name() == load)?;
     let ticks = ticks.parse().ok()?;
     match chip {
-        PROVED => Some(load.run(&mut load.ready::<duart::Duart>(), ticks)),
-        PLAIN => Some(load.run(&mut load.ready::<model::Chip>(), ticks)),
+        PROVED => Some(load.run(&mut load.ready::<duart::Duart>(ticks), ticks)),
+        PLAIN => Some(load.run(&mut load.ready::<model::Chip>(ticks), ticks)),
         _ => None,
     }
 }
@@ -160,9 +180,9 @@ fn run_fresh<C: Chip>(chip: &mut C, ticks: u32) -> u64 {
 }
 
 /// 3,686,400 ticks a second, 9,600 bits a second.
-const BIT_9600: u32 = 384;
+pub const BIT_9600: u32 = 384;
 /// A start bit, 8 data bits and a stop bit.
-const FRAME_9600: u32 = 10 * BIT_9600;
+pub const FRAME_9600: u32 = 10 * BIT_9600;
 
 /// Code 11 for 9,600 bits a second, 8 data bits, no parity, the receivers and transmitters on; IRQ by what has come.
 fn prepare_9600<C: Chip>(chip: &mut C) {
@@ -217,7 +237,7 @@ mod tests {
 
     #[test]
     fn characters_come_while_it_is_counted() {
-        for load in [Load::Busy, Load::Run9600] {
+        for load in [Load::Busy, Load::Run9600, Load::Dump] {
             let seen = load.spans().map(|ticks| run(PROVED, load.name(), &ticks.to_string()));
             assert!(seen[1] > seen[0], "{}", load.name());
         }
@@ -226,8 +246,9 @@ mod tests {
     /// Of each channel: a character in each frame, and a transmitter that is never idle once it was served.
     #[test]
     fn both_channels_send_and_receive_at_9600() {
-        let mut chip: model::Chip = Load::Run9600.ready();
-        Load::Run9600.run(&mut chip, 2 * FRAME_9600);
+        let mut ready = Load::Run9600.ready::<model::Chip>(0);
+        Load::Run9600.run(&mut ready, 2 * FRAME_9600);
+        let mut chip = ready.chip;
         let status = [1, 9].map(|register| Chip::step(&mut chip, model::Event::Read(register)).2);
         assert_eq!(status.map(|status| status & 0xf9), [0; 2]);
         let buffers = [3, 11].map(|register| Chip::step(&mut chip, model::Event::Read(register)).2);

@@ -1,5 +1,6 @@
 //! Ticks a second and instructions a tick, the proved chip through `duart_step` beside the independent model, both
-//! built for release: idle, and with both channels sending and receiving; then through `duart_poll` and `duart_run` (order 5).
+//! built for release: idle, and with both channels sending and receiving; then through `duart_poll` and `duart_run` (order 5),
+//! and the dump of a list of 1,000,000 events, beside the model's plain writer (order 6).
 //! Of the times it is the ratio of the two that counts, and each against real time; the times themselves are the machine's.
 //!
 //! `bench` prints times and counts; under an emulator the counts alone, for a time there says nothing.
@@ -8,6 +9,7 @@
 
 mod chips;
 mod count;
+mod dumping;
 mod loads;
 mod record;
 
@@ -24,12 +26,12 @@ const TICKS_A_ROUND: u32 = 1_000_000;
 
 /// Ticks a second, by the median of so many rounds, and the sum over what was seen.
 fn timed<C: Chip>(load: Load) -> (f64, u64) {
-    let mut chip: C = load.ready();
+    let mut ready = load.ready::<C>(TICKS_A_ROUND);
     let mut times: Vec<Duration> = Vec::new();
     let mut sum = 0u64;
     for _ in 0..ROUNDS {
         let begin = Instant::now();
-        sum = sum.wrapping_add(load.run(&mut chip, TICKS_A_ROUND));
+        sum = sum.wrapping_add(load.run(&mut ready, TICKS_A_ROUND));
         times.push(begin.elapsed());
     }
     times.sort();

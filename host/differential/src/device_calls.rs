@@ -24,7 +24,7 @@ pub fn run(devices: u64, seed: u64, coverage: &mut CallCoverage) -> Called<()> {
 
 /// A drawn IMR would assert IRQ at once, and a drawn count is far from its end: so half of them have a count that is near it, and
 /// most an IMR of bits that ISR has not, or none. Some have no side that goes by ticks.
-fn some_device(draws: &mut Generator) -> Device {
+pub fn some_device(draws: &mut Generator) -> Device {
     let mut device = drawing::device(draws);
     if draws.one_in(4) {
         let codes = draws.pick(&[0xdd, 0xee]);
@@ -62,7 +62,7 @@ fn try_device(caller: &mut Caller) -> Called<()> {
 }
 
 /// Any events, half of them ticks.
-fn some_list(draws: &mut Generator) -> Vec<EventRecord> {
+pub fn some_list(draws: &mut Generator) -> Vec<EventRecord> {
     let kinds = [0, 1, 1, 2, 2, 3, 4, 5, 5, 5, 5, 5, 5, 5, 6];
     let length = draws.between(1, LIST);
     (0..length)

@@ -1,8 +1,9 @@
 //! The differential test: the proved chip, through the archive's C interface, beside the independent model
 //! of document 01 and its orders. `differential [EVENTS [SEED]]` runs so many events of random scripts, some of
-//! them again through order 5's calls, then random devices and all frame requests, and exits with 1 at the first
-//! difference, which it prints, of a script so that the replay program can show it. From the fixed seed it also asks
-//! that the scripts reach all that coverage.rs counts, and the calls all that call_sights.rs counts.
+//! them again through order 5's calls and through order 6's dump, then random devices and all frame requests, and
+//! exits with 1 at the first difference, which it prints, of a script so that the replay program can show it. From the
+//! fixed seed it also asks that the scripts reach all that coverage.rs counts, the calls all that call_sights.rs counts
+//! and the dumps all that dump_sights.rs counts.
 
 mod call_sights;
 mod calls;
@@ -11,6 +12,12 @@ mod coverage;
 mod device_calls;
 mod devices;
 mod drawing;
+mod dump_counting;
+mod dump_draws;
+mod dump_lengths;
+mod dump_sights;
+mod dump_walk;
+mod dumps;
 mod frames;
 mod generator;
 mod interface;
@@ -34,6 +41,7 @@ mod starts;
 
 use call_sights::CallCoverage;
 use coverage::Coverage;
+use dump_sights::DumpCoverage;
 use scripts::Scripts;
 use std::process::ExitCode;
 
@@ -41,6 +49,7 @@ use std::process::ExitCode;
 const EVENTS: u64 = 4_000_000;
 const DEVICES: u64 = 200_000;
 const CALLED_DEVICES: u64 = 4_000;
+const DUMPED_DEVICES: u64 = 8_000;
 const SEED: u64 = 1;
 
 /// EVENTS and SEED; none where an argument is no number or there are more.
@@ -89,6 +98,25 @@ fn run_calls(events: u64, seed: u64, scripts: &Scripts) -> Result<String, ()> {
     Ok(format!("{} polls, {} runs", coverage.polls, coverage.runs))
 }
 
+/// Order 6's dumps: the scripts that were kept, drawn devices, and the longest lists from the fixed seed alone.
+fn run_dumps(events: u64, seed: u64, scripts: &Scripts) -> Result<String, ()> {
+    let mut coverage = DumpCoverage::default();
+    for (seed, events) in &scripts.kept {
+        dump_draws::run(*seed, events, &mut coverage).map_err(|misfit| misfit.print())?;
+    }
+    dump_draws::run_devices(DUMPED_DEVICES, seed, &mut coverage).map_err(|failure| failure.print())?;
+    if seed == SEED {
+        dump_lengths::run(seed, &mut coverage).map_err(|failure| failure.print())?;
+    }
+    coverage.print();
+    let missing = coverage.missing();
+    if seed == SEED && events >= EVENTS && !missing.is_empty() {
+        println!("the dumps never met: {}", missing.join(", "));
+        return Err(());
+    }
+    Ok(format!("{} dumps", coverage.dumps))
+}
+
 fn run_devices(seed: u64) -> Result<String, ()> {
     let tally = devices::run(DEVICES, seed).map_err(|failure| failure.print())?;
     println!("{:>10} sound devices", tally.sound);
@@ -124,9 +152,10 @@ fn run_frames(seed: u64) -> Result<String, ()> {
 fn run_all(events: u64, seed: u64) -> Result<(), ()> {
     let (done, scripts) = run_scripts(events, seed)?;
     let calls = run_calls(events, seed, &scripts)?;
+    let dumps = run_dumps(events, seed, &scripts)?;
     let devices = run_devices(seed)?;
     let frames = run_frames(seed)?;
-    println!("{done}, {calls} and {frames}: the chip and the model do not differ; {devices}: sound or refused as they should be");
+    println!("{done}, {calls}, {dumps} and {frames}: the chip and the model do not differ; {devices}: sound or refused as they should be");
     Ok(())
 }
 

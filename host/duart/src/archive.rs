@@ -1,8 +1,10 @@
-//! The seven names of the archive, as include/duart.h declares them. No compiler checks these lines against the Rattle source;
+//! The eight names of the archive, as include/duart.h declares them. No compiler checks these lines against the Rattle source;
 //! the differential test would show where they differ.
 
 use crate::device::Device;
-use crate::{EventRecord, FrameAnswer, Polled, Ran, Seen};
+use crate::{DumpAnswer, EventRecord, FrameAnswer, Polled, Ran, Seen};
+use core::mem::size_of;
+use core::slice;
 
 extern "C" {
     fn duart_abi() -> u32;
@@ -12,6 +14,7 @@ extern "C" {
     fn duart_run(device: *mut Device, budget: u32) -> Ran;
     fn duart_frame(mr1: u8, mr2: u8, byte: u8, space: *mut u8, length: usize) -> FrameAnswer;
     fn duart_sound(device: Device) -> bool;
+    fn duart_dump_bytes(device: Device, events: *const u8, events_size: usize, space: *mut u8, size: usize) -> DumpAnswer;
 }
 
 pub fn abi() -> u32 {
@@ -49,4 +52,19 @@ pub fn frame(mr1: u8, mr2: u8, byte: u8, space: &mut [u8]) -> FrameAnswer {
 pub fn sound(device: Device) -> bool {
     // SAFETY: plain data in, plain data out.
     unsafe { duart_sound(device) }
+}
+
+pub fn dump(device: Device, events: &[u8], space: &mut [u8]) -> DumpAnswer {
+    // SAFETY: plain data in, plain data out; each pointer and length are those of one slice, lent for the call alone, the
+    // second exclusively, so they do not overlap.
+    unsafe { duart_dump_bytes(device, events.as_ptr(), events.len(), space.as_mut_ptr(), space.len()) }
+}
+
+const RECORD_BYTES: usize = 3;
+const _: () = assert!(size_of::<EventRecord>() == RECORD_BYTES);
+
+/// A list as a dump reads it: of each record its kind, register and byte, in the order of its fields (layout.rs).
+pub fn bytes_of(events: &[EventRecord]) -> &[u8] {
+    // SAFETY: a record is three bytes with nothing between them, and the whole list is no more than a slice can be.
+    unsafe { slice::from_raw_parts(events.as_ptr().cast(), RECORD_BYTES * events.len()) }
 }

@@ -1,4 +1,4 @@
-//! Why something was refused: the numbers of document 01's table by name, and order 5's 9.
+//! Why something was refused: the numbers of document 01's table by name, and order 5's 9, which is order 6's too.
 
 use crate::Seen;
 use core::fmt;
@@ -25,9 +25,10 @@ pub enum Refusal {
     NotAsserted,
     /// 7: "the new state would be unsound", which is proved never to be given
     NewUnsound,
-    /// 8: "lent space shorter than the frame", or (order 5) "answer space shorter than the list"
+    /// 8: "lent space shorter than the frame", (order 5) "answer space shorter than the list", or (order 6) "short
+    /// space" for a dump
     SpaceShort,
-    /// 9 (order 5): "a list or budget over its limit"
+    /// 9 (order 5): "a list or budget over its limit"; (order 6) "a longer list" than a dump takes
     OverLimit,
     /// A number that none of these has. The archive gives none; a record that was made by hand may have one.
     Other(u8),

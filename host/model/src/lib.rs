@@ -11,6 +11,7 @@ pub mod character;
 pub mod chip;
 pub mod clock;
 pub mod counter_timer;
+pub mod dump;
 pub mod format;
 pub mod frame;
 pub mod level;
@@ -31,4 +32,5 @@ mod tests;
 
 pub use calls::{Polled, Ran};
 pub use chip::{Chip, Event, Seen};
+pub use dump::Dumped;
 pub use request::{frame, FrameAnswer};

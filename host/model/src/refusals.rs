@@ -16,9 +16,10 @@ pub const COMMAND_WITH_11: u8 = 4;
 pub const NOT_MODELLED: u8 = 5;
 /// "acknowledge while IRQ is not asserted"
 pub const NOT_ASSERTED: u8 = 6;
-/// "lent space shorter than the frame"; order 5: "8 for answer space shorter than the list"
+/// "lent space shorter than the frame"; order 5: "8 for answer space shorter than the list"; order 6: "8 for short
+/// space, which then stays"
 pub const SPACE_TOO_SHORT: u8 = 8;
-/// Order 5: "9 for a list or budget over its limit"
+/// Order 5: "9 for a list or budget over its limit"; order 6: "9 for a longer list"
 pub const OVER_THE_LIMIT: u8 = 9;
 
 impl Chip {

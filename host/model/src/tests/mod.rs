@@ -1,4 +1,4 @@
-//! The model's tests, all through `Chip::step`, `poll`, `run` and `frame`: the eleven cases, the traps, the open points of
+//! The model's tests, all through `Chip::step`, `poll`, `run`, `dump` and `frame`: the eleven cases, the traps, the open points of
 //! document 01 as docs/DECISIONS.md decides them, and the orders of document 02.
 
 mod board;
@@ -6,6 +6,8 @@ mod breaks;
 mod cases;
 mod clocks;
 mod counting;
+mod dump_refusals;
+mod dumping;
 mod echoing;
 mod freshness;
 mod hunting;

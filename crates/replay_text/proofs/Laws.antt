@@ -1,2 +1,0 @@
--- The laws of the text. Assumes nothing.
-pub mod Text

@@ -1,0 +1,3 @@
+-- The laws of text, a file a topic. Assumes nothing.
+pub mod Decimal
+pub mod Puts

@@ -1,0 +1,1 @@
+// What a dump shows: theorems only.
