@@ -163,8 +163,9 @@ pub extern "C" fn duart_frame(mr1: u8, mr2: u8, byte: u8, space: &mut [u8]) -> F
     request_frame(mr1, mr2, byte, space)
 }
 
-// order 6: "From a sound state and a list of up to 1,000,000 events, write a value change dump (IEEE 1364) into lent space". The
-// list lies as bytes, three to an event record; include/duart.h has `duart_dump` over it, for a list of records.
+// order 6: "From a sound state and a list of up to 1,000,000 events, write a value change dump (IEEE 1364) into lent
+// space". The list lies as bytes, three to an event record; include/duart.h has `duart_dump` over it, for a list of
+// records.
 #[no_mangle]
 pub extern "C" fn duart_dump_bytes(device: Device, events: &[u8], space: &mut [u8]) -> DumpAnswer
     ensures answer { λ r. ⌜ r ≡ Dump.dumpedOf device (now (events .entry)) (length (now (space .entry))) ⌝ }

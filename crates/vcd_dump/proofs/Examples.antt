@@ -1,12 +1,15 @@
 -- Dumps computed, in order 6's own numbers: what is accepted, written and refused. Assumes nothing.
 use Prim.Native.Nat.{ℕ}
 use mathlib.Core.Path.{_≡_, refl}
+use mathlib.Core.Bool.{Bool, true, false}
 use mathlib.Core.List.{List, [], _∷_, _++_}
 use lib.ListN.{length, drop, getD, replicate}
+use Rattle.format.specs.Digits.{bitsOf}
 use Rattle.chip_device.specs.Device.{freshDevice}
 use Rattle.chip_device.proofs.Examples.{fiveFlags}
 use Rattle.chip_laws.proofs.Computing.{computing}
 use Rattle.text.specs.Bytes.{bytesOf}
+use Rattle.vcd_dump.specs.Waves.{valuesOf}
 use Rattle.vcd_dump.specs.Dump.{textOf, dumpRefusal, dumpedOf, spaceAfter}
 use Rattle.vcd_dump.proofs.Computing.{dumping}
 
@@ -30,6 +33,17 @@ one-change = refl
 pub at-zero : length (textOf freshDevice (2 ∷ 14 ∷ 1 ∷ [])) ≡ 372
 unfolding computing dumping
 at-zero = refl
+
+-- "TxDA, TxDB, IRQ as line level (asserted is 0) and OP0 to OP7": each low alone
+abbrev others : Bool → List Bool
+others op0 = op0 ∷ replicate 7 true
+
+each-wire : (valuesOf (record { txda = false; txdb = true; irq = false; op = 255 }) ≡ false ∷ true ∷ true ∷ others true)
+    × (valuesOf (record { txda = true; txdb = false; irq = false; op = 255 }) ≡ true ∷ false ∷ true ∷ others true)
+    × (valuesOf (record { txda = true; txdb = true; irq = true; op = 255 }) ≡ true ∷ true ∷ false ∷ others true)
+    × (valuesOf (record { txda = true; txdb = true; irq = false; op = 254 }) ≡ true ∷ true ∷ true ∷ others false)
+unfolding bitsOf
+each-wire = (refl, refl, refl, refl)
 
 -- IRQ asserted is 0: transmitter A is enabled, and its TxRDY is in the mask; two wires at one time, in the order of the codes
 pub irq-low : drop 372 (textOf freshDevice (5 ∷ 0 ∷ 0 ∷ 5 ∷ 0 ∷ 0 ∷ 2 ∷ 2 ∷ 4 ∷ 2 ∷ 14 ∷ 128 ∷ 2 ∷ 5 ∷ 1 ∷ []))
