@@ -1,7 +1,7 @@
 /*
  * The MC68681 serial chip (DUART), proved: what a board maker links.
  *
- * `rt staticlib duart` writes target/staticlib/libduart.a, which holds the eight functions below. Each is proved to
+ * `rt staticlib duart` writes target/staticlib/libduart.a, which holds the nine functions below. Each is proved to
  * meet its contract (crates/duart/src/duart.rt) for every argument, so a caller owes no more than this:
  *
  *  - pointers lead to what they say, and are used by no other thread during the call;
@@ -15,7 +15,7 @@
  * Nothing here allocates, blocks, keeps a pointer or holds state of its own: two devices are two chips.
  *
  * In this order: the structs of a device; the names of registers, bits and codes; events and answers; where each field
- * lies; the eight functions; helpers, which are written in C here and call those.
+ * lies; the nine functions; helpers, which are written in C here and call those.
  */
 #ifndef DUART_H
 #define DUART_H
@@ -439,12 +439,15 @@ enum {
     DUART_FORBIDDEN_READ = 3,    /* read of register 2 or 10 */
     DUART_FORBIDDEN_COMMAND = 4, /* command whose bits 3-2 or 1-0 are 11 */
     DUART_NOT_MODELLED = 5,      /* a write, or a frame request, that chooses a setting which is not modelled: MR1 bit 7
-                                    or bits 4-3 = 11, MR2 bit 5, OPCR bits 1-0 not 00 or bit 3 */
+                                    or bits 4-3 = 11, MR2 bit 5, OPCR bits 1-0 not 00 or bit 3; a capture's MR1, or
+                                    its code above 12 */
     DUART_NOT_ASSERTED = 6,      /* an acknowledge while IRQ is not asserted */
     DUART_NEW_UNSOUND = 7,       /* the new state would be unsound: proved never to be given */
-    DUART_SPACE_SHORT = 8,       /* a frame request's space is shorter than the frame, a poll's than its list, or a
-                                    dump's than its text */
-    DUART_OVER_LIMIT = 9         /* a poll's or a dump's list, or a run's budget, is over its limit */
+    DUART_SPACE_SHORT = 8,       /* a frame request's space is shorter than the frame, a poll's than its list, a
+                                    dump's than its text, or a capture's log than its channel's characters */
+    DUART_OVER_LIMIT = 9,        /* a poll's or a dump's list, or a run's budget, is over its limit */
+    DUART_OUTSIDE_SUBSET = 10,   /* a capture's text is outside the subset, or has no wire of a name given */
+    DUART_TIME_NOT_LATER = 11    /* a time of a capture is not later than the one before */
 };
 
 /*
@@ -507,6 +510,18 @@ typedef struct duart_dump_answer {
     size_t length;
 } duart_dump_answer;
 
+/* ---- a capture ---- */
+
+/* No line of any text gives more bytes than this, whatever it is read by, two for each of 23,405 characters: a log of so
+ * many is never too short. */
+#define DUART_CAPTURE_SPACE (2 * 23405)
+
+/* A capture's answer: the number, and how many bytes of the named channel's log were filled, 0 if it is refused. */
+typedef struct duart_capture_answer {
+    uint8_t number;
+    size_t length;
+} duart_capture_answer;
+
 /* ---- where each field lies ---- */
 
 /* STRUCT(name, size) of each struct and FIELD(name, field, offset) of each of its fields, as they lie in the archive.
@@ -547,7 +562,8 @@ typedef struct duart_dump_answer {
     STRUCT(polled, 16) FIELD(polled, number, 0) FIELD(polled, count, 8) \
     STRUCT(ran, 12) FIELD(ran, number, 0) FIELD(ran, ticks, 4) FIELD(ran, irq, 8) FIELD(ran, txda, 9) \
         FIELD(ran, txdb, 10) FIELD(ran, op, 11) \
-    STRUCT(dump_answer, 16) FIELD(dump_answer, number, 0) FIELD(dump_answer, length, 8)
+    STRUCT(dump_answer, 16) FIELD(dump_answer, number, 0) FIELD(dump_answer, length, 8) \
+    STRUCT(capture_answer, 16) FIELD(capture_answer, number, 0) FIELD(capture_answer, length, 8)
 
 /* Does not compile where one lies otherwise, say packed, or where two fields of a struct are exchanged. */
 #define DUART_HAS_SIZE(name, size) typedef char duart_size_of_##name[sizeof(duart_##name) == (size) ? 1 : -1];
@@ -557,7 +573,7 @@ DUART_LAYOUT(DUART_HAS_SIZE, DUART_LIES_AT)
 #undef DUART_HAS_SIZE
 #undef DUART_LIES_AT
 
-/* ---- the eight functions of the archive ---- */
+/* ---- the nine functions of the archive ---- */
 
 /* The state after a chip reset with all pins high. */
 duart_device duart_fresh(void);
@@ -608,6 +624,34 @@ bool duart_sound(duart_device device);
  * event, one event after the other. A rest of one or two bytes is no event. */
 duart_dump_answer duart_dump_bytes(duart_device device, const uint8_t *events, size_t events_size, uint8_t *space,
                                    size_t size);
+
+/*
+ * "Turn each line, up to the last time, into characters by document 01's receiver, just enabled, phase 0, for a given MR1,
+ * ACR bit 7 and CSR code 0 to 12" (order 7), of a value change dump of the real chip's two RxD lines. Both logs are filled
+ * from their front with "two bytes a character (data, marks as SR 7-5)", the marks being DUART_SR_BREAK, which then is
+ * alone, DUART_SR_FRAMING and DUART_SR_PARITY; bytes past that stay. The length is that of log_b's filled part if
+ * `channel_b`, else of log_a's. One MR1 (its bits 6 and 5 are allowed and not used), set and code hold for both channels;
+ * `name_a` is the wire of channel A, `name_b` that of B, which may be the same.
+ *
+ * The text is as duart_dump() writes it, with 1 to 16 wires, "names of 1 to 32 characters and one-character codes, ! to ~,
+ * each once", "then times up to 4,000,000,000 ns, no leading zeros, each with any value lines of those codes, the last of a
+ * code counting": byte for byte the lines of the header `$timescale 1 ns $end`, `$scope module duart $end`,
+ * `$var wire 1 ! RxDA $end` and its like, `$upscope $end`, `$enddefinitions $end`, each ended by LF, then lines such as
+ * `#271` and `1!` alone. No more than that is read: what most tools write ($date, $version, `1ns`, $dumpvars, x and z) has
+ * to be put into this form first.
+ *
+ * A line is high before its first value. A receiver just enabled must sample a high before a low counts. A character is
+ * read where its stop sample, in the middle of the stop bit, comes no later than the text's last time: so let the text end
+ * with a time after the last stop bit; it needs no value.
+ *
+ * Refused, in this order: 5 MR1 or the code, 10 a text outside the subset or a named wire that it has not, 11 a time that
+ * is not later than the one before, 8 either log is shorter than its channel's characters, whichever is named
+ * (DUART_CAPTURE_SPACE is always enough). Then the length is 0 and both logs are as they were. The pointers are not NULL,
+ * also where a size is 0; neither log overlaps the other, the text or a name. examples/capture.c reads one.
+ */
+duart_capture_answer duart_capture(uint8_t mr1, bool acr7, uint8_t code, const uint8_t *text, size_t text_size,
+                                   const uint8_t *name_a, size_t name_a_size, const uint8_t *name_b, size_t name_b_size,
+                                   uint8_t *log_a, size_t log_a_size, uint8_t *log_b, size_t log_b_size, bool channel_b);
 
 /* ---- helpers ---- */
 

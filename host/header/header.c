@@ -218,6 +218,70 @@ static int dumps(void)
     return wrong;
 }
 
+static const char captured[] =
+    "$timescale 1 ns $end\n$scope module duart $end\n$var wire 1 ! RxDA $end\n$var wire 1 \" RxDB $end\n"
+    "$upscope $end\n$enddefinitions $end\n#0\n1!\n#104167\n0!\n0\"\n#208334\n1!\n#1250000\n1\"\n#1250001\n";
+static uint8_t log_a[DUART_CAPTURE_SPACE], log_b[DUART_CAPTURE_SPACE];
+
+/* The first `size` bytes of the capture above, read by a code and by two names into the first bytes of the logs. */
+static duart_capture_answer capture(uint8_t code, size_t size, const char *a, const char *b, size_t size_a, size_t size_b)
+{
+    memset(log_a, 7, sizeof log_a);
+    memset(log_b, 7, sizeof log_b);
+    return duart_capture(DUART_MR1_8_BITS | DUART_MR1_NO_PARITY, false, code, (const uint8_t *)captured, size,
+                         (const uint8_t *)a, strlen(a), (const uint8_t *)b, strlen(b), log_a, size_a, log_b, size_b,
+                         false);
+}
+
+/* A 255 on one line and a break on the other, at 9,600 bits a second. */
+static int captures(void)
+{
+    size_t all = strlen(captured);
+    duart_capture_answer told;
+    int wrong = 0;
+
+    told = capture(DUART_BAUD_9600, all, "RxDA", "RxDB", DUART_CAPTURE_SPACE, DUART_CAPTURE_SPACE);
+    wrong += differs("a capture", told.number, DUART_ACCEPTED);
+    wrong += differs("the part of A's log", (unsigned)told.length, 2);
+    wrong += differs("A's character", log_a[0], 255);
+    wrong += differs("its marks", log_a[1], 0);
+    wrong += differs("the log past it", log_a[2] + log_b[2], 14);
+    wrong += differs("B's character", log_b[0], 0);
+    wrong += differs("its marks, a break", log_b[1], DUART_SR_BREAK);
+    told = capture(DUART_BAUD_9600, all, "RxDA", "RxDB", 2, 2);
+    wrong += differs("logs that are just enough", told.number, DUART_ACCEPTED);
+    told = capture(DUART_BAUD_9600, all, "RxDA", "RxDB", 2, 1);
+    wrong += differs("a log that is a byte short, not the named one", told.number, DUART_SPACE_SHORT);
+    wrong += differs("its length", (unsigned)told.length, 0);
+    wrong += differs("nothing is written", log_a[0] + log_b[0], 14);
+    told = capture(DUART_CLOCK_TIMER, 0, "", "", 0, 0);
+    wrong += differs("a code above 12, before all else", told.number, DUART_NOT_MODELLED);
+    told = capture(DUART_BAUD_9600, all - 1, "RxDA", "RxDB", 2, 2);
+    wrong += differs("a text without its last LF", told.number, DUART_OUTSIDE_SUBSET);
+    told = capture(DUART_BAUD_9600, all, "RxDA", "RxD", 2, 2);
+    wrong += differs("a wire that is missing", told.number, DUART_OUTSIDE_SUBSET);
+    told = capture(DUART_BAUD_9600, 0, "RxDA", "RxDB", 2, 2);
+    wrong += differs("no text", told.number, DUART_OUTSIDE_SUBSET);
+    wrong += differs("bytes of its answer", (unsigned)sizeof told, 16);
+    wrong += differs("the most a log needs", DUART_CAPTURE_SPACE, 46810);
+    return wrong;
+}
+
+/* The same times twice over, which is no capture: the second time 0 is not later. */
+static int repeated(void)
+{
+    static uint8_t text[2 * sizeof captured];
+    const char *times = strstr(captured, "#0");
+    size_t size = strlen(captured);
+    duart_capture_answer told;
+
+    memcpy(text, captured, size);
+    memcpy(text + size, times, strlen(times));
+    told = duart_capture(DUART_MR1_8_BITS, true, DUART_BAUD_38400_SET1, text, size + strlen(times),
+                         (const uint8_t *)"RxDA", 4, (const uint8_t *)"RxDA", 4, log_a, 0, log_b, 0, true);
+    return differs("a time that is not later", told.number, DUART_TIME_NOT_LATER);
+}
+
 int main(void)
 {
     int wrong;
@@ -230,5 +294,7 @@ int main(void)
     wrong += polls();
     wrong += runs();
     wrong += dumps();
+    wrong += captures();
+    wrong += repeated();
     return wrong == 0 ? 0 : 1;
 }

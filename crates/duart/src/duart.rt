@@ -15,6 +15,9 @@ use records::Seen;
 use records::event_of;
 use request::FrameAnswer;
 use request::request_frame;
+use vcd_capture::Asked;
+use vcd_capture::Captured;
+use vcd_capture::read_capture;
 use vcd_dump::DumpAnswer;
 use vcd_dump::dump;
 ghost use mathlib.Core.Path.{_≡_};
@@ -26,7 +29,7 @@ ghost use Rattle.records.specs.Records.{eventOf};
 ghost use Rattle.request.specs.Request.{requestOf, spaceAfter};
 ghost use Rattle.poll.specs.Poll.{seenIn, polledOf, answersAfter};
 ghost use Rattle.vcd_dump.specs.Dump as Dump;
-ghost use Rattle.duart.specs.Duart.{abiNumber, polledSeen, ranSeen};
+ghost use Rattle.duart.specs.Duart.{abiNumber, polledSeen, ranSeen, captureSeen, CaptureShown};
 
 // order 5: "the count says how many were written, and the call itself answers 0", or why it is refused.
 #[repr(C)]
@@ -45,6 +48,13 @@ pub struct RanSeen {
     pub txdb: bool,
     // bit n is OPn
     pub op: u8,
+}
+
+// order 7: the number, and the length of "the filled part of that channel's log".
+#[repr(C)]
+pub struct CaptureAnswer {
+    pub number: u8,
+    pub length: usize,
 }
 
 // What the step by value answers to a record.
@@ -172,6 +182,48 @@ pub extern "C" fn duart_dump_bytes(device: Device, events: &[u8], space: &mut [u
     ensures space { λ _. ⌜ now (space .exit) ≡ Dump.spaceAfter device (now (events .entry)) (now (space .entry)) ⌝ }
 {
     dump(device, events, space)
+}
+
+fn capture_seen(captured: Captured, channel_b: bool) -> CaptureAnswer
+    ensures { λ r. ⌜ r ≡ captureSeen captured «channel_b» ⌝ }
+{
+    if channel_b {
+        return CaptureAnswer {
+            number: captured.number,
+            length: captured.length_b,
+        };
+    }
+    CaptureAnswer {
+        number: captured.number,
+        length: captured.length_a,
+    }
+}
+
+// order 7: "There are two lent logs, one per channel, two bytes a character (data, marks as SR 7-5); the caller names a
+// channel and is handed the filled part of that channel's log." No reference crosses to C, so it is handed its length.
+#[no_mangle]
+pub extern "C" fn duart_capture(
+    mr1: u8,
+    acr7: bool,
+    code: u8,
+    text: &[u8],
+    name_a: &[u8],
+    name_b: &[u8],
+    log_a: &mut [u8],
+    log_b: &mut [u8],
+    channel_b: bool,
+) -> CaptureAnswer
+    ensures { λ r. ⌜ CaptureShown (record { mr1 = mr1; acr7 = acr7; code = code }) (now (text .entry))
+        (now («name_a» .entry)) (now («name_b» .entry)) (now («log_a» .entry)) (now («log_b» .entry))
+        (now («log_a» .exit)) (now («log_b» .exit)) «channel_b» r ⌝ }
+{
+    let asked = Asked {
+        mr1: mr1,
+        acr7: acr7,
+        code: code,
+    };
+    let captured = read_capture(asked, text, name_a, name_b, log_a, log_b);
+    capture_seen(captured, channel_b)
 }
 
 // docs/SOUND.md lists the ranges.

@@ -13,7 +13,8 @@ use Rattle.replay_script.specs.Script.{piecesOf, fullOf, sameOf, hashOf, valueO
 use Rattle.replay_script.specs.Lines.{toldAlone, toldWithByte, toldWithOne, toldWithTwo, toldOf}
 use Rattle.replay_script.specs.Agrees.{AreBytes, Agrees}
 use Rattle.replay_laws.proofs.Laws.Names.{nameFrom, named-reset, named-read, named-write, named-ack, named-pins, named-tick}
-use Rattle.replay_laws.proofs.Laws.Numbers.{numberFrom, number-most, number-value, byte-within}
+use Rattle.text.specs.Numbers.{numberFrom}
+use Rattle.replay_laws.proofs.Laws.Numbers.{number-most, number-value, byte-within}
 use Rattle.replay_laws.proofs.Laws.Words.{commentOf, countOf, nameOf, firstOf, secondOf, summaryOf, read-words, AllBytes, words-bytes}
 
 alone : (a : List ℕ) → AreBytes a → toldAlone (nameFrom 1 a) ≡ said a []

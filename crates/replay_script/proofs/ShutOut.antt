@@ -7,8 +7,8 @@ use lib.Dec.{eqb, ltb}
 use Rattle.format.specs.Pick.{pick}
 use Rattle.events.specs.declared.events.Event.the-variants.{Write, Acknowledge}
 use Rattle.replay_script.specs.declared.lines.Line.the-variants.{Ticks, One}
-use Rattle.replay_script.specs.Bytes.{blankOf, digitOf}
-use Rattle.replay_script.specs.Reading.{valueAfter, wordsAfter}
+use Rattle.replay_script.specs.Bytes.{blankOf}
+use Rattle.replay_script.specs.Reading.{wordsAfter}
 use Rattle.replay_script.specs.Lines.{toldAlone, toldWithOne, toldWithTwo}
 use Rattle.replay_script.specs.Place.{lineAfter}
 
@@ -16,15 +16,6 @@ use Rattle.replay_script.specs.Place.{lineAfter}
 
 no-tabNoBlank : ((b : ℕ) → (eqb b 32 || (eqb b 11 || eqb b 13)) ≡ blankOf b) → ⊥
 no-tabNoBlank h = false≢true (h 9)
-
--- a number is digits alone: 43 is +
-no-signIsDigit : ((b : ℕ) → (ltb 42 b && ltb b 58) ≡ digitOf b) → ⊥
-no-signIsDigit h = true≢false (h 43)
-
--- 40,000,000,000 is no 4,000,000,000
-no-digitsDropped : 4000000000 ≡ valueAfter 4000000000 48 → ⊥
-unfolding valueAfter pick
-no-digitsDropped = omega arith
 
 no-fourWordsThree : ((n : ℕ) → pick (ltb n 3) (n + 1) n ≡ wordsAfter n) → ⊥
 unfolding wordsAfter pick

@@ -5,7 +5,8 @@ use mathlib.Core.List.{List, [], _∷_}
 use lib.Dec.{eqb, ltb, leb}
 use Rattle.format.specs.Pick.{pick}
 use Rattle.replay_script.specs.declared.reading.Reading.{Reading}
-use Rattle.replay_script.specs.Bytes.{blankOf, digitOf}
+use Rattle.text.specs.Numbers.{numberAfter}
+use Rattle.replay_script.specs.Bytes.{blankOf}
 
 abbrev pub started : Reading
 started = record { inside = false; comment = false; words = 0; name = 1; first = 0; second = 0 }
@@ -14,14 +15,6 @@ started = record { inside = false; comment = false; words = 0; name = 1; first =
 -- byte on it is 2 ^ 48.
 unfoldable pub nameAfter : ℕ → ℕ → ℕ
 nameAfter name b = pick (ltb name 0x100_0000_0000) (name * 256 + b) 0x1_0000_0000_0000
-
--- 4,000,000,001 stands for what is above 4,000,000,000, and for what is no number
-unfoldable pub valueAfter : ℕ → ℕ → ℕ
-valueAfter n b =
-    pick (leb n 4000000000) (pick (leb (n * 10 + (b - 48)) 4000000000) (n * 10 + (b - 48)) 4000000001) 4000000001
-
-unfoldable pub numberAfter : ℕ → ℕ → ℕ
-numberAfter n b = pick (digitOf b) (valueAfter n b) 4000000001
 
 -- 35 is #
 unfoldable pub commentAfter : Reading → ℕ → Bool

@@ -7,7 +7,8 @@ use Rattle.format.specs.Pick.{pick}
 use Rattle.events.specs.declared.events.Event.the-variants.{ChipReset, Read, Write, Acknowledge, Pins}
 use Rattle.replay_script.specs.declared.lines.Line.{Line}
 use Rattle.replay_script.specs.declared.lines.Line.the-variants.{Skipped, Wrong, Ticks, One}
-use Rattle.replay_script.specs.Bytes.{blankOf, digitOf}
+use Rattle.text.specs.Numbers.{digit}
+use Rattle.replay_script.specs.Bytes.{blankOf}
 
 -- the names of the events, as bytes
 abbrev pub resetText : List ℕ
@@ -65,7 +66,7 @@ hashOf (b ∷ bs) = eqb b 35
 -- a number is decimal digits alone, and any number of them
 unfoldable pub allDigits : List ℕ → Bool
 allDigits [] = true
-allDigits (b ∷ bs) = digitOf b && allDigits bs
+allDigits (b ∷ bs) = digit b && allDigits bs
 
 -- the value of these digits, after those that made n; 48 is the digit 0
 unfoldable pub valueFrom : ℕ → List ℕ → ℕ

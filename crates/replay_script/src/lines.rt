@@ -1,8 +1,8 @@
 // What a line of a script says.
-use crate::reading::MOST;
 use crate::reading::Reading;
 use events::Event;
 use format::Ticks;
+use text::MOST;
 ghost use mathlib.Core.Path.{_≡_};
 ghost use Rattle.replay_script.specs.Lines.{toldAlone, toldWithByte, toldWithOne, toldWithTwo, toldOf};
 

@@ -1,8 +1,8 @@
 // A line of a script, byte by byte: what is known of it so far.
-ghost use Prim.Native.Nat.{_-_};
+use text::number_after;
 ghost use mathlib.Core.Path.{_≡_};
-ghost use Rattle.replay_script.specs.Bytes.{blankOf, digitOf};
-ghost use Rattle.replay_script.specs.Reading.{started, nameAfter, valueAfter, numberAfter, commentAfter};
+ghost use Rattle.replay_script.specs.Bytes.{blankOf};
+ghost use Rattle.replay_script.specs.Reading.{started, nameAfter, commentAfter};
 ghost use Rattle.replay_script.specs.Reading.{wordsAfter, begunOf, addedOf, takenOf};
 
 pub struct Reading {
@@ -14,7 +14,7 @@ pub struct Reading {
     pub words: u8,
     // the bytes of the first word after a 1, in base 256; LONG where there are more than five
     pub name: u64,
-    // the numbers that the second word and the third spell; MUCH where one is above MOST or spells none
+    // the numbers that the second word and the third spell, as `number_after` has them
     pub first: u64,
     pub second: u64,
 }
@@ -24,11 +24,6 @@ const FIVE_BYTES: u64 = 0x100_0000_0000;
 
 // More than any name of five bytes.
 const LONG: u64 = 0x1_0000_0000_0000;
-
-// The most ticks that a line may ask for, and the most of any number.
-pub const MOST: u64 = 4000000000;
-
-const MUCH: u64 = 4000000001;
 
 // No byte of the line is read yet.
 pub fn start() -> Reading
@@ -51,23 +46,6 @@ fn is_blank(byte: u8) -> bool
     (byte == 32) | ((byte == 9) | (byte == 13))
 }
 
-// 0 to 9
-fn is_digit(byte: u8) -> bool
-    ensures { λ r. ⌜ r ≡ digitOf byte ⌝ }
-{
-    (47 < byte) & (byte < 58)
-}
-
-// The value of a digit.
-fn digit_value(byte: u8) -> u64
-    ensures { λ r. ⌜ r ≡ byte - 48 ⌝ }
-{
-    if byte < 48 {
-        return 0;
-    }
-    byte as u64 - 48
-}
-
 // The first word's name, with one byte more.
 fn name_after(name: u64, byte: u8) -> u64
     ensures { λ r. ⌜ r ≡ nameAfter name byte ⌝ }
@@ -76,30 +54,6 @@ fn name_after(name: u64, byte: u8) -> u64
         return name * 256 + byte as u64;
     }
     LONG
-}
-
-// A number, with one byte more that is a digit.
-fn value_after(number: u64, byte: u8) -> u64
-    ensures { λ r. ⌜ r ≡ valueAfter number byte ⌝ }
-{
-    if number <= MOST {
-        let next = number * 10 + digit_value(byte);
-        if next <= MOST {
-            return next;
-        }
-        return MUCH;
-    }
-    MUCH
-}
-
-// A number, with one byte more.
-fn number_after(number: u64, byte: u8) -> u64
-    ensures { λ r. ⌜ r ≡ numberAfter number byte ⌝ }
-{
-    if is_digit(byte) {
-        return value_after(number, byte);
-    }
-    MUCH
 }
 
 // Whether the line is a comment, once a word has begun with this byte.

@@ -12,7 +12,7 @@ ghost use Rattle.text.specs.Puts.{Puts};
 ghost use Rattle.replay_text.specs.Lines.{flagText, seenText, errorText, Within};
 
 // Puts a byte in decimal, and then a separator.
-fn put_byte(byte: u8, separator: u8, at: usize, space: &mut [u8]) -> usize
+pub fn put_byte(byte: u8, separator: u8, at: usize, space: &mut [u8]) -> usize
     requires { ⌜ at + 4 < 2 ^ 64 ⌝ }
     ensures within { λ r. ⌜ r ≤ at + 4 ⌝ }
     ensures text { λ r. ⌜ Puts at (decimalOf 3 byte ++ separator ∷ []) (now (space .entry)) (now (space .exit)) r ⌝ }

@@ -6,3 +6,4 @@
 mod sampler;
 
 pub use sampler::sample;
+pub use sampler::take_sample;

@@ -57,7 +57,7 @@ fn finish(setting: Setting, value: u16, stop: bool) -> Sampled
 }
 
 // A sample: one bit more above those taken, or the stop.
-fn take_sample(sampler: Sampler, level: bool) -> Sampled
+pub fn take_sample(sampler: Sampler, level: bool) -> Sampled
     ensures { λ r. ⌜ r ≡ sampled sampler level ⌝ }
 {
     let setting = sampler.setting;

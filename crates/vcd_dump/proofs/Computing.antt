@@ -7,11 +7,12 @@ use Rattle.records.specs.Records.{eventOf}
 use Rattle.text.specs.Bytes.{bytesOf}
 use Rattle.text.specs.Decimal.{decimalOf}
 use Rattle.vcd_text.specs.Header.{lineOf, wireLine, wireLines, headerOf, wiresFrom, chipWires}
-use Rattle.vcd_text.specs.Changes.{timeLine, valueLine, valueLines, atTime, wavesText, dumpText}
+use Rattle.vcd_text.specs.Changes.{valueLines, atTime, wavesText, dumpText}
+use Rattle.vcd_text.specs.Lines.{lineText}
 use Rattle.vcd_dump.specs.Waves.{recordsOf, wavesFrom}
 use Rattle.vcd_dump.specs.Dump.{textOf, dumpRefusal, dumpedOf, spaceAfter}
 
 unfoldable pub dumping : Bool
-unfolding pick digitOf bitsOf isTick eventOf bytesOf decimalOf lineOf wireLine wireLines headerOf wiresFrom chipWires timeLine valueLine
+unfolding pick digitOf bitsOf isTick eventOf bytesOf decimalOf lineOf wireLine wireLines headerOf wiresFrom chipWires lineText
     valueLines atTime wavesText dumpText recordsOf wavesFrom textOf dumpRefusal dumpedOf spaceAfter
 dumping = true

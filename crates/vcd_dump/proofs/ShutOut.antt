@@ -17,7 +17,7 @@ use Rattle.records.specs.Records.{eventOf}
 use Rattle.text.specs.Bytes.{bytesOf}
 use Rattle.text.specs.Decimal.{decimalOf}
 use Rattle.vcd_text.specs.Header.{lineOf, Wire, wireLine, wireLines, headerOf, wiresFrom, chipWires}
-use Rattle.vcd_text.specs.Changes.{timeLine, valueLine, valueLines, atTime, wavesText, dumpText}
+use Rattle.vcd_text.specs.Changes.{valueLines, atTime, wavesText, dumpText}
 use Rattle.vcd_dump.specs.Waves.{valuesOf, recordsOf, wavesFrom}
 use Rattle.vcd_dump.specs.Dump.{textOf, dumpRefusal, dumpedOf, spaceAfter}
 use Rattle.vcd_dump.proofs.Computing.{dumping}

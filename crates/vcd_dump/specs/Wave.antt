@@ -15,7 +15,7 @@ use Rattle.chip_step.specs.Chip.{stepOf}
 use Rattle.records.specs.declared.records.EventRecord.{EventRecord}
 use Rattle.text.specs.Puts.{Puts}
 use Rattle.vcd_text.specs.Changes.{wavesText}
-use Rattle.vcd_text.specs.Words.{writtenBefore, changesOf}
+use Rattle.vcd_text.specs.Words.{writtenBefore, changesText}
 use Rattle.vcd_dump.specs.declared.waves.Wave.{Wave}
 use Rattle.vcd_dump.specs.Waves.{valuesOf, wavesFrom}
 
@@ -26,7 +26,7 @@ recordAt bytes i =
 
 -- what is written when the time ends that a wave stands at
 abbrev pub endText : Wave → List ℕ
-endText w = changesOf (w .tick) (w .before) (w .values)
+endText w = changesText (w .tick) (w .before) (w .values)
 
 -- after an accepted event, the writing having come to a place: a tick begins a time of its own
 unfoldable pub waveAfter : Wave → Bool → Lines → ℕ → Wave

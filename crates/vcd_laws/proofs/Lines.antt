@@ -11,10 +11,10 @@ use borrow.Author.Tests.{eq-eqb, ne-eqb, le-leb, lt-leb}
 use Rattle.format.specs.Pick.{pick}
 use Rattle.format.proofs.Laws.Pick.{pick-yes, pick-no}
 use Rattle.vcd_text.specs.Time.{timeOf}
-use Rattle.vcd_text.specs.Changes.{timeLine, valueLine, differ, valueLines, atTime, wavesText}
-use Rattle.vcd_text.specs.Lines.{Line, lineText, linesText, levelAt, timesOf, valuesOn}
+use Rattle.vcd_text.specs.Changes.{differ, valueLines, atTime, wavesText}
+use Rattle.vcd_text.specs.Lines.{Line, lineText, linesText, levelAt, timesOf, RisesFrom, valuesOn}
 use Rattle.vcd_text.specs.Lines.Line.{Time, Value}
-use Rattle.vcd_laws.specs.Shows.{RisesFrom, OnlyChanges, CodesFrom}
+use Rattle.vcd_laws.specs.Shows.{OnlyChanges, CodesFrom}
 use Rattle.vcd_laws.proofs.Times.{time-rises, rises-later}
 
 -- ---- the lines ----
@@ -45,7 +45,7 @@ lines-append [] ms = refl
 lines-append (l ∷ ls) ms = rw (lines-append ls ms) (sym (append-assoc (lineText l) (linesText ls) (linesText ms)))
 
 changes-text : (code : ℕ) (before vs : List Bool) → linesText (changesOf code before vs) ≡ valueLines code before vs
-unfolding changesOf linesText lineText valueLines valueLine pick
+unfolding changesOf linesText lineText valueLines pick
 changes-text code before [] = refl
 changes-text code [] (v ∷ vs) = rw (changes-text (suc code) [] vs)
 changes-text code (true ∷ us) (true ∷ vs) = changes-text (suc code) us vs
@@ -54,7 +54,7 @@ changes-text code (false ∷ us) (true ∷ vs) = rw (changes-text (suc code) us 
 changes-text code (false ∷ us) (false ∷ vs) = changes-text (suc code) us vs
 
 timed-text : (n : ℕ) (ls : List Line) → linesText (timed n ls) ≡ atTime n (linesText ls)
-unfolding timed linesText lineText atTime timeLine
+unfolding timed linesText lineText atTime
 timed-text n [] = refl
 timed-text n (Time t ∷ ls) = refl
 timed-text n (Value c v ∷ ls) = refl

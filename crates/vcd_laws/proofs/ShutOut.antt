@@ -20,11 +20,11 @@ use Rattle.chip_laws.proofs.Computing.{computing}
 use Rattle.chip_fast.specs.Fast.{isTick}
 use Rattle.vcd_text.specs.Time.{timeOf}
 use Rattle.vcd_text.specs.Changes.{differ}
-use Rattle.vcd_text.specs.Lines.{Line, levelAt, timesOf, valuesOn}
+use Rattle.vcd_text.specs.Lines.{Line, levelAt, timesOf, RisesFrom, valuesOn}
 use Rattle.vcd_text.specs.Lines.Line.{Time, Value}
 use Rattle.vcd_dump.specs.Waves.{valuesOf, wavesFrom}
 use Rattle.vcd_dump.specs.Dump.{eventsText}
-use Rattle.vcd_laws.specs.Shows.{RisesFrom, ChangesFrom, Changes, Accepted, ticksIn, TimeEnds, OnlyChanges, CodesFrom}
+use Rattle.vcd_laws.specs.Shows.{ChangesFrom, Changes, Accepted, ticksIn, TimeEnds, OnlyChanges, CodesFrom}
 use Rattle.vcd_laws.specs.Shows.{Tells, Shows}
 use Rattle.vcd_laws.proofs.Lines.{changesOf, timed, linesOf}
 use Rattle.vcd_laws.proofs.Shows.{dumpLines, shows}

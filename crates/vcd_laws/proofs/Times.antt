@@ -4,7 +4,7 @@ use mathlib.Core.Path.{_≡_}
 use mathlib.Core.List.{List, [], _∷_}
 use native.Mathlib.Omega.{arith}
 use Rattle.vcd_text.specs.Time.{timeOf}
-use Rattle.vcd_laws.specs.Shows.{RisesFrom}
+use Rattle.vcd_text.specs.Lines.{RisesFrom}
 
 pub time-rises : (n : ℕ) → timeOf n < timeOf (suc n)
 time-rises n = omega arith

@@ -14,14 +14,9 @@ use Rattle.chip_fast.specs.Fast.{isTick}
 use Rattle.vcd_text.specs.Time.{timeOf}
 use Rattle.vcd_text.specs.Header.{headerOf, chipWires}
 use Rattle.vcd_text.specs.Changes.{differ}
-use Rattle.vcd_text.specs.Lines.{Line, linesText, levelAt, timesOf, valuesOn}
+use Rattle.vcd_text.specs.Lines.{Line, linesText, levelAt, timesOf, RisesFrom, valuesOn}
 use Rattle.vcd_text.specs.Lines.Line.{Time, Value}
 use Rattle.vcd_dump.specs.Waves.{valuesOf}
-
--- each is later than the one before, and none is before the first number
-unfoldable pub RisesFrom : ℕ → List ℕ → Type 0
-RisesFrom t [] = Unit {0}
-RisesFrom t (u ∷ us) = (t ≤ u) × RisesFrom (suc u) us
 
 -- each differs from the one before
 unfoldable pub ChangesFrom : Bool → List Bool → Type 0

@@ -10,7 +10,8 @@ use Rattle.text.specs.Bytes.{bytesOf}
 use Rattle.text.specs.Decimal.{decimalOf}
 use Rattle.vcd_text.specs.Time.{timeOf}
 use Rattle.vcd_text.specs.Header.{lineOf, Wire, wireLine, wireLines, headerOf, wiresFrom, chipWires}
-use Rattle.vcd_text.specs.Changes.{timeLine, valueLine, valueLines, atTime, wavesText, dumpText}
+use Rattle.vcd_text.specs.Changes.{valueLines, atTime, wavesText, dumpText}
+use Rattle.vcd_text.specs.Lines.{lineText}
 
 -- ticks 1 to 4, and the last that a list can have
 first-times : timeOf 1 ∷ timeOf 2 ∷ timeOf 3 ∷ timeOf 4 ∷ [] ≡ 271 ∷ 542 ∷ 813 ∷ 1085 ∷ []
@@ -37,5 +38,5 @@ unfolding bytesOf lineOf wireLine wireLines wiresFrom chipWires headerOf
 header-length = refl
 
 shortest : length (dumpText (replicate 11 true ∷ [])) ≡ 372
-unfolding bytesOf lineOf wireLine wireLines wiresFrom chipWires headerOf digitOf decimalOf pick timeLine valueLine valueLines atTime wavesText dumpText
+unfolding bytesOf lineOf wireLine wireLines wiresFrom chipWires headerOf digitOf decimalOf pick lineText valueLines atTime wavesText dumpText
 shortest = refl

@@ -4,18 +4,17 @@ use Prim.Native.Nat.{ℕ, suc}
 use mathlib.Core.Bool.{Bool, not}
 use mathlib.Core.List.{List, [], _∷_, _++_}
 use Rattle.format.specs.Pick.{pick}
-use Rattle.format.specs.Digits.{digitOf}
-use Rattle.text.specs.Decimal.{decimalOf}
 use Rattle.vcd_text.specs.Time.{timeOf}
 use Rattle.vcd_text.specs.Header.{headerOf, chipWires}
+use Rattle.vcd_text.specs.Lines.{lineText}
+use Rattle.vcd_text.specs.Lines.Line.{Time, Value}
 
--- "`#` with the time"; a number of 64 bits has at most twenty places
-unfoldable pub timeLine : ℕ → List ℕ
-timeLine n = 35 ∷ decimalOf 20 (timeOf n) ++ 10 ∷ []
+-- the line of tick n's time, and that of a value
+abbrev pub timeLine : ℕ → List ℕ
+timeLine n = lineText (Time (timeOf n))
 
--- "lines such as `1!`"
-unfoldable pub valueLine : ℕ → Bool → List ℕ
-valueLine code level = digitOf level ∷ code ∷ 10 ∷ []
+abbrev pub valueLine : ℕ → Bool → List ℕ
+valueLine code level = lineText (Value code level)
 
 abbrev pub differ : Bool → Bool → Bool
 differ u v = pick u (not v) v

@@ -1,5 +1,5 @@
 -- What a dump's lines after its header say, by themselves: whoever reads them goes by this. Assumes nothing.
-use Prim.Native.Nat.{ℕ}
+use Prim.Native.Nat.{ℕ, suc, _≤_}
 use mathlib.Core.Bool.{Bool}
 use mathlib.Core.List.{List, [], _∷_, _++_}
 use lib.Dec.{eqb, leb}
@@ -7,7 +7,8 @@ use Rattle.format.specs.Pick.{pick}
 use Rattle.format.specs.Digits.{digitOf}
 use Rattle.text.specs.Decimal.{decimalOf}
 
--- "`#` with the time and lines such as `1!`": a time, or a value of the wire with this code
+-- "`#` with the time and lines such as `1!`": a time, or a value of the wire with this code. A number of 64 bits has at
+-- most twenty places.
 pub data Line : Type 0 where
   Time : ℕ → Line
   Value : ℕ → Bool → Line
@@ -31,6 +32,11 @@ unfoldable pub timesOf : List Line → List ℕ
 timesOf [] = []
 timesOf (Time t ∷ ls) = t ∷ timesOf ls
 timesOf (Value c v ∷ ls) = timesOf ls
+
+-- each is later than the one before, and none is before the first number
+unfoldable pub RisesFrom : ℕ → List ℕ → Type 0
+RisesFrom t [] = Unit {0}
+RisesFrom t (u ∷ us) = (t ≤ u) × RisesFrom (suc u) us
 
 -- the values of a wire, in their order
 unfoldable pub valuesOn : ℕ → List Line → List Bool

@@ -13,5 +13,5 @@ unfoldable pub writtenBefore : Bool → ℕ → ℕ → List Bool
 writtenBefore none wires before = pick none [] (bitsOf wires before)
 
 -- what is written at a tick's time; before time 0 none is
-unfoldable pub changesOf : ℕ → ℕ → ℕ → List ℕ
-changesOf n before values = atTime n (valueLines 33 (writtenBefore (eqb n 0) 11 before) (bitsOf 11 values))
+unfoldable pub changesText : ℕ → ℕ → ℕ → List ℕ
+changesText n before values = atTime n (valueLines 33 (writtenBefore (eqb n 0) 11 before) (bitsOf 11 values))

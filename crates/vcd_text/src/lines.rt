@@ -12,7 +12,7 @@ ghost use Rattle.format.specs.Digits.{bitsOf};
 ghost use Rattle.text.specs.Puts.{Puts};
 ghost use Rattle.vcd_text.specs.Header.{headerOf, chipWires};
 ghost use Rattle.vcd_text.specs.Changes.{timeLine, valueLine, valueLines};
-ghost use Rattle.vcd_text.specs.Words.{writtenBefore, changesOf};
+ghost use Rattle.vcd_text.specs.Words.{writtenBefore, changesText};
 
 // "`$timescale 1 ns $end`, .. `$enddefinitions $end`": all lines before the first time.
 pub fn put_header(space: &mut [u8]) -> usize
@@ -89,7 +89,7 @@ fn put_values(none: bool, before: u16, values: u16, at: usize, space: &mut [u8])
 // "all values at time 0, then only times with changes": what is written at a tick's time.
 pub fn put_changes(tick: u32, before: u16, values: u16, at: usize, space: &mut [u8]) -> usize
     requires { ⌜ (at + 55 < 2 ^ 64) × (before < 2 ^ 11) × (values < 2 ^ 11) ⌝ }
-    ensures { λ r. ⌜ Puts at (changesOf tick before values) (now (space .entry)) (now (space .exit)) r ⌝ }
+    ensures { λ r. ⌜ Puts at (changesText tick before values) (now (space .entry)) (now (space .exit)) r ⌝ }
 {
     if tick == 0 {
         let begun = put_time(tick, at, space);

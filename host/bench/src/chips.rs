@@ -24,7 +24,15 @@ pub trait Chip {
     fn list(events: &[model::Event]) -> Self::List;
     /// A dump of the first events of a list, and its length.
     fn dump(&self, list: &Self::List, events: usize, space: &mut [u8]) -> usize;
+    /// A capture read at 9,600 bits a second, 8 data bits and no parity, and how long the filled part of A's log is. No chip
+    /// is asked for it.
+    fn capture(text: &[u8], log_a: &mut [u8], log_b: &mut [u8]) -> usize;
 }
+
+/// MR1, and the code of 9,600 bits a second in the first set.
+const EIGHT_BITS: u8 = 0x13;
+const CODE_9600: u8 = 11;
+const NAMES: [&[u8]; 2] = [b"TxDA", b"TxDB"];
 
 /// A value that the compiler knows nothing of: as on a board, the event is not known beforehand and the whole answer is
 /// made. Else the compiler could make a step of the model for ticks alone, or leave out what nobody reads, which it
@@ -76,6 +84,13 @@ impl Chip for model::Chip {
         assert_eq!(dumped.number, 0);
         dumped.length
     }
+
+    fn capture(text: &[u8], log_a: &mut [u8], log_b: &mut [u8]) -> usize {
+        let asked = model::capture::Request { mr1: EIGHT_BITS, acr_bit_7: false, code: CODE_9600, text, names: NAMES };
+        let told = model::capture(unknown(asked), log_a, log_b, false);
+        assert_eq!(told.number, 0);
+        told.length
+    }
 }
 
 fn proved_event(event: model::Event) -> duart::Event {
@@ -126,5 +141,13 @@ impl Chip for duart::Duart {
         let dumped = self.dump_raw(&list[..events], space);
         assert_eq!(dumped.number, 0);
         dumped.length
+    }
+
+    fn capture(text: &[u8], log_a: &mut [u8], log_b: &mut [u8]) -> usize {
+        let [name_a, name_b] = NAMES;
+        let asked = duart::Capture { mr1: EIGHT_BITS, acr7: false, code: CODE_9600, text, name_a, name_b };
+        let told = duart::capture_raw(&asked, log_a, log_b, duart::Channel::A);
+        assert_eq!(told.number, 0);
+        told.length
     }
 }

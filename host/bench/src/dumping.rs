@@ -34,7 +34,7 @@ impl<C: Chip> Work<C> {
 }
 
 /// Someone sends into both RxD, a character a frame, and the transmitters are given the next.
-fn frame(number: u32) -> Vec<Event> {
+pub fn frame(number: u32) -> Vec<Event> {
     let byte = number as u8;
     let mut events = vec![Event::Read(3), Event::Read(11), Event::Write(3, byte), Event::Write(11, !byte)];
     let levels = (u32::from(byte) << 1) | 0x200;

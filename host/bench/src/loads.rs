@@ -1,5 +1,6 @@
 //! What the chips are given to do.
 
+use crate::capturing::{Capture, MOST_TICKS};
 use crate::chips::{Chip, MOST_EVENTS, PLAIN, PROVED};
 use crate::dumping::{Work, FRAME_EVENTS};
 
@@ -19,16 +20,30 @@ pub enum Load {
     /// Order 6: the dump of a list with both channels sending and receiving at 9,600 bits a second. All but 14 of 3,854
     /// events are ticks, and each is counted as one.
     Dump,
+    /// Order 7: such a dump read back. Its ticks are the events that it was made of.
+    Capture,
+    /// Order 7: a capture of up to 4,000,000,000 ns with few changes.
+    CaptureLong,
 }
 
-/// A chip that is ready for a load, and the list of its dump.
+/// A chip that is ready for a load, the list of its dump, and the capture.
 pub struct Ready<C: Chip> {
     pub chip: C,
     work: Work<C>,
+    pub capture: Capture,
 }
 
 impl Load {
-    pub const ALL: [Load; 6] = [Load::Idle, Load::Busy, Load::Poll, Load::RunFresh, Load::Run9600, Load::Dump];
+    pub const ALL: [Load; 8] = [
+        Load::Idle,
+        Load::Busy,
+        Load::Poll,
+        Load::RunFresh,
+        Load::Run9600,
+        Load::Dump,
+        Load::Capture,
+        Load::CaptureLong,
+    ];
 
     pub fn name(self) -> &'static str {
         match self {
@@ -38,14 +53,24 @@ impl Load {
             Load::RunFresh => "run-fresh",
             Load::Run9600 => "run-9600",
             Load::Dump => "dump",
+            Load::Capture => "capture",
+            Load::CaptureLong => "capture-long",
         }
     }
 
-    /// A run passes over most ticks, so its instructions are counted for a thousand of them.
+    /// A run and a capture pass over most ticks, so their instructions are counted for a thousand of them.
     pub fn ticks_counted(self) -> u64 {
         match self {
             Load::Idle | Load::Busy | Load::Poll | Load::Dump => 1,
-            Load::RunFresh | Load::Run9600 => 1_000,
+            Load::RunFresh | Load::Run9600 | Load::Capture | Load::CaptureLong => 1_000,
+        }
+    }
+
+    /// The ticks of a round that is timed.
+    pub fn ticks_a_round(self) -> u32 {
+        match self {
+            Load::CaptureLong => MOST_TICKS,
+            _ => 1_000_000,
         }
     }
 
@@ -58,15 +83,16 @@ impl Load {
 
     /// The ticks of two runs whose instructions are counted. Between them is a whole number of what comes again: a frame of 11
     /// bits at 38,400 bits a second, in which a character comes; a poll of 4,096; ten periods of code 0; two frames at 9,600,
-    /// and eight of a dump, so that one shows whose cost grows with its text. More say nothing more, and the emulator's log
-    /// has a line for each instruction.
+    /// and eight of a dump or its capture, so that one shows whose cost grows with its text; a tenth of the longest capture.
+    /// More say nothing more, and the emulator's log has a line for each instruction.
     pub fn spans(self) -> [u32; 2] {
         match self {
             Load::Idle | Load::Busy => [528, 1_584],
             Load::Poll => [1, 1 + 4_096],
             Load::RunFresh => [4_608, 11 * 4_608],
             Load::Run9600 => [2 * FRAME_9600, 4 * FRAME_9600],
-            Load::Dump => [2 * FRAME_EVENTS, 10 * FRAME_EVENTS],
+            Load::Dump | Load::Capture => [2 * FRAME_EVENTS, 10 * FRAME_EVENTS],
+            Load::CaptureLong => [MOST_TICKS / 10, 2 * (MOST_TICKS / 10)],
         }
     }
 
@@ -77,18 +103,24 @@ impl Load {
         match self {
             Load::Busy => prepare(&mut chip),
             Load::Run9600 | Load::Dump => prepare_9600(&mut chip),
-            Load::Idle | Load::Poll | Load::RunFresh => {}
+            Load::Idle | Load::Poll | Load::RunFresh | Load::Capture | Load::CaptureLong => {}
         }
+        let most = ticks.max(self.spans()[1]);
         let work = match self {
-            Load::Dump => Work::of(ticks.max(self.spans()[1])),
+            Load::Dump => Work::of(most),
             _ => Work::none(),
         };
-        Ready { chip, work }
+        let capture = match self {
+            Load::Capture => Capture::of_dump(&Load::Dump.ready::<model::Chip>(0).chip, most),
+            Load::CaptureLong => Capture::of_few_changes(),
+            _ => Capture::none(),
+        };
+        Ready { chip, work, capture }
     }
 
     /// So many ticks of it, and a sum over what was seen.
     pub fn run<C: Chip>(self, ready: &mut Ready<C>, ticks: u32) -> u64 {
-        let Ready { chip, work } = ready;
+        let Ready { chip, work, capture } = ready;
         match self {
             Load::Idle => idle(chip, ticks),
             Load::Busy => busy(chip, ticks),
@@ -96,6 +128,7 @@ impl Load {
             Load::RunFresh => run_fresh(chip, ticks),
             Load::Run9600 => run_9600(chip, ticks),
             Load::Dump => work.dump(chip, ticks),
+            Load::Capture | Load::CaptureLong => capture.read::<C>(ticks),
         }
     }
 }
@@ -237,7 +270,7 @@ mod tests {
 
     #[test]
     fn characters_come_while_it_is_counted() {
-        for load in [Load::Busy, Load::Run9600, Load::Dump] {
+        for load in [Load::Busy, Load::Run9600, Load::Dump, Load::Capture, Load::CaptureLong] {
             let seen = load.spans().map(|ticks| run(PROVED, load.name(), &ticks.to_string()));
             assert!(seen[1] > seen[0], "{}", load.name());
         }

@@ -1,12 +1,14 @@
 //! Ticks a second and instructions a tick, the proved chip through `duart_step` beside the independent model, both
 //! built for release: idle, and with both channels sending and receiving; then through `duart_poll` and `duart_run` (order 5),
-//! and the dump of a list of 1,000,000 events, beside the model's plain writer (order 6).
+//! the dump of a list of 1,000,000 events, beside the model's plain writer (order 6), that dump read back and a capture of
+//! 4,000,000,000 ns with few changes, beside the model's plain reader (order 7).
 //! Of the times it is the ratio of the two that counts, and each against real time; the times themselves are the machine's.
 //!
 //! `bench` prints times and counts; under an emulator the counts alone, for a time there says nothing.
 //! `bench check FILE` counts, and fails where the archive takes more instructions than FILE asks.
 //! `bench run proved|plain LOAD TICKS` does that and nothing else: it is what is counted. Loads are those of loads.rs by name.
 
+mod capturing;
 mod chips;
 mod count;
 mod dumping;
@@ -22,21 +24,21 @@ use std::{env, mem};
 /// The crystal's ticks a second.
 pub const REAL_TIME: f64 = 3_686_400.0;
 const ROUNDS: usize = 15;
-const TICKS_A_ROUND: u32 = 1_000_000;
 
 /// Ticks a second, by the median of so many rounds, and the sum over what was seen.
 fn timed<C: Chip>(load: Load) -> (f64, u64) {
-    let mut ready = load.ready::<C>(TICKS_A_ROUND);
+    let ticks = load.ticks_a_round();
+    let mut ready = load.ready::<C>(ticks);
     let mut times: Vec<Duration> = Vec::new();
     let mut sum = 0u64;
     for _ in 0..ROUNDS {
         let begin = Instant::now();
-        sum = sum.wrapping_add(load.run(&mut ready, TICKS_A_ROUND));
+        sum = sum.wrapping_add(load.run(&mut ready, ticks));
         times.push(begin.elapsed());
     }
     times.sort();
     (
-        f64::from(TICKS_A_ROUND) / times[ROUNDS / 2].as_secs_f64(),
+        f64::from(ticks) / times[ROUNDS / 2].as_secs_f64(),
         sum,
     )
 }

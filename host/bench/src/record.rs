@@ -74,6 +74,7 @@ fn times_real_time(load: Load, count: u64, rate: u64) -> f64 {
 /// Whether a count is what is asked, and the words that say what it is beside that.
 fn judged(load: Load, counts: Counts, asked: Asked, rate: u64) -> (bool, String) {
     let (unit, Counts { proved: count, plain }) = (load.unit(), counts);
+    let times = count as f64 / plain as f64;
     match asked {
         Asked::About(recorded) => (
             count * 100 <= recorded * (100 + PERCENT),
@@ -86,7 +87,6 @@ fn judged(load: Load, counts: Counts, asked: Asked, rate: u64) -> (bool, String)
             (times >= asked as f64, said)
         }
         Asked::PlainAtMost(most) => {
-            let times = count as f64 / plain as f64;
             let said = format!("{count} {unit}, {times:.2} times the plain model's {plain}, at most {most} asked");
             (count <= most * plain, said)
         }

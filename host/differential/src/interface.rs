@@ -10,3 +10,4 @@ const _: () = assert!(size_of::<duart::FrameAnswer>() == 2);
 const _: () = assert!(size_of::<duart::Polled>() == 16);
 const _: () = assert!(size_of::<duart::Ran>() == 12);
 const _: () = assert!(size_of::<duart::DumpAnswer>() == 16);
+const _: () = assert!(size_of::<duart::CaptureAnswer>() == 16);

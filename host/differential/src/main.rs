@@ -1,12 +1,25 @@
 //! The differential test: the proved chip, through the archive's C interface, beside the independent model
 //! of document 01 and its orders. `differential [EVENTS [SEED]]` runs so many events of random scripts, some of
-//! them again through order 5's calls and through order 6's dump, then random devices and all frame requests, and
-//! exits with 1 at the first difference, which it prints, of a script so that the replay program can show it. From the
-//! fixed seed it also asks that the scripts reach all that coverage.rs counts, the calls all that call_sights.rs counts
-//! and the dumps all that dump_sights.rs counts.
+//! them again through order 5's calls and through order 6's dump, then random captures (order 7), random devices and all
+//! frame requests, and exits with 1 at the first difference, which it prints, of a script so that the replay program can
+//! show it. From the fixed seed it also asks that the scripts reach all that coverage.rs counts, the calls all that
+//! call_sights.rs counts, the dumps all that dump_sights.rs counts and the captures all that capture_sights.rs counts.
 
 mod call_sights;
 mod calls;
+mod capture_altering;
+mod capture_bytes;
+mod capture_chip;
+mod capture_counting;
+mod capture_draws;
+mod capture_dumps;
+mod capture_edits;
+mod capture_lengths;
+mod capture_lines;
+mod capture_sights;
+mod capture_texts;
+mod capture_waves;
+mod captures;
 mod counting;
 mod coverage;
 mod device_calls;
@@ -40,6 +53,7 @@ mod sound;
 mod starts;
 
 use call_sights::CallCoverage;
+use capture_sights::CaptureCoverage;
 use coverage::Coverage;
 use dump_sights::DumpCoverage;
 use scripts::Scripts;
@@ -50,6 +64,9 @@ const EVENTS: u64 = 4_000_000;
 const DEVICES: u64 = 200_000;
 const CALLED_DEVICES: u64 = 4_000;
 const DUMPED_DEVICES: u64 = 8_000;
+const CAPTURES: u64 = 2_500;
+const SENDING: u64 = 120;
+const PIECES: u64 = 2_000;
 const SEED: u64 = 1;
 
 /// EVENTS and SEED; none where an argument is no number or there are more.
@@ -117,6 +134,28 @@ fn run_dumps(events: u64, seed: u64, scripts: &Scripts) -> Result<String, ()> {
     Ok(format!("{} dumps", coverage.dumps))
 }
 
+/// Order 7's captures: drawn ones, dumps of the scripts that were kept and of chips that send, texts of pieces, and from the
+/// fixed seed alone the longest, and all that is a byte away from a small one.
+fn run_captures(events: u64, seed: u64, scripts: &Scripts) -> Result<String, ()> {
+    let mut coverage = CaptureCoverage::default();
+    let read = capture_draws::run(CAPTURES, seed, &mut coverage)
+        .and_then(|()| capture_dumps::run(&scripts.kept, seed, &mut coverage))
+        .and_then(|()| capture_dumps::run_sending(SENDING, seed, &mut coverage))
+        .and_then(|()| capture_dumps::run_pieces(PIECES, seed, &mut coverage));
+    read.map_err(|failure| failure.print())?;
+    if seed == SEED {
+        let read = capture_lengths::run(seed, &mut coverage).and_then(|()| capture_bytes::run(&mut coverage));
+        read.map_err(|failure| failure.print())?;
+    }
+    coverage.print();
+    let missing = coverage.missing();
+    if seed == SEED && events >= EVENTS && !missing.is_empty() {
+        println!("the captures never met: {}", missing.join(", "));
+        return Err(());
+    }
+    Ok(format!("{} captures", coverage.captures))
+}
+
 fn run_devices(seed: u64) -> Result<String, ()> {
     let tally = devices::run(DEVICES, seed).map_err(|failure| failure.print())?;
     println!("{:>10} sound devices", tally.sound);
@@ -153,9 +192,10 @@ fn run_all(events: u64, seed: u64) -> Result<(), ()> {
     let (done, scripts) = run_scripts(events, seed)?;
     let calls = run_calls(events, seed, &scripts)?;
     let dumps = run_dumps(events, seed, &scripts)?;
+    let captures = run_captures(events, seed, &scripts)?;
     let devices = run_devices(seed)?;
     let frames = run_frames(seed)?;
-    println!("{done}, {calls}, {dumps} and {frames}: the chip and the model do not differ; {devices}: sound or refused as they should be");
+    println!("{done}, {calls}, {dumps}, {captures} and {frames}: the chip and the model do not differ; {devices}: sound or refused as they should be");
     Ok(())
 }
 

@@ -1,8 +1,8 @@
-//! The eight names of the archive, as include/duart.h declares them. No compiler checks these lines against the Rattle source;
+//! The nine names of the archive, as include/duart.h declares them. No compiler checks these lines against the Rattle source;
 //! the differential test would show where they differ.
 
 use crate::device::Device;
-use crate::{DumpAnswer, EventRecord, FrameAnswer, Polled, Ran, Seen};
+use crate::{Capture, CaptureAnswer, DumpAnswer, EventRecord, FrameAnswer, Polled, Ran, Seen};
 use core::mem::size_of;
 use core::slice;
 
@@ -15,6 +15,22 @@ extern "C" {
     fn duart_frame(mr1: u8, mr2: u8, byte: u8, space: *mut u8, length: usize) -> FrameAnswer;
     fn duart_sound(device: Device) -> bool;
     fn duart_dump_bytes(device: Device, events: *const u8, events_size: usize, space: *mut u8, size: usize) -> DumpAnswer;
+    fn duart_capture(
+        mr1: u8,
+        acr7: bool,
+        code: u8,
+        text: *const u8,
+        text_size: usize,
+        name_a: *const u8,
+        name_a_size: usize,
+        name_b: *const u8,
+        name_b_size: usize,
+        log_a: *mut u8,
+        log_a_size: usize,
+        log_b: *mut u8,
+        log_b_size: usize,
+        channel_b: bool,
+    ) -> CaptureAnswer;
 }
 
 pub fn abi() -> u32 {
@@ -58,6 +74,30 @@ pub fn dump(device: Device, events: &[u8], space: &mut [u8]) -> DumpAnswer {
     // SAFETY: plain data in, plain data out; each pointer and length are those of one slice, lent for the call alone, the
     // second exclusively, so they do not overlap.
     unsafe { duart_dump_bytes(device, events.as_ptr(), events.len(), space.as_mut_ptr(), space.len()) }
+}
+
+pub fn capture(asked: &Capture, log_a: &mut [u8], log_b: &mut [u8], channel_b: bool) -> CaptureAnswer {
+    let Capture { mr1, acr7, code, text, name_a, name_b } = *asked;
+    // SAFETY: each pointer and length are those of one slice, and a slice's pointer is not null; all are lent for the call
+    // alone, the logs exclusively, so neither log overlaps anything. The names and the text are only read.
+    unsafe {
+        duart_capture(
+            mr1,
+            acr7,
+            code,
+            text.as_ptr(),
+            text.len(),
+            name_a.as_ptr(),
+            name_a.len(),
+            name_b.as_ptr(),
+            name_b.len(),
+            log_a.as_mut_ptr(),
+            log_a.len(),
+            log_b.as_mut_ptr(),
+            log_b.len(),
+            channel_b,
+        )
+    }
 }
 
 const RECORD_BYTES: usize = 3;

@@ -4,7 +4,7 @@
 
 use crate::device::{Bits, Character, Format, Front, Inputs, Marks, Outputs, Phases, Pulses, Queue, Receiver, Sampler};
 use crate::device::{Setting, Shifter, Side, Ticks, Timer, Transmitter};
-use crate::{Device, DumpAnswer, EventRecord, FrameAnswer, Polled, Ran, Seen};
+use crate::{CaptureAnswer, Device, DumpAnswer, EventRecord, FrameAnswer, Polled, Ran, Seen};
 use core::mem::size_of;
 
 /// As `core`'s, which a rustc before 1.77 has not: the field's bytes are made 1, and the first that is 1 is looked for.
@@ -78,6 +78,7 @@ laid_out! {
     polled: Polled, 16 { number: 0, count: 8 }
     ran: Ran, 12 { number: 0, ticks: 4, irq: 8, txda: 9, txdb: 10, op: 11 }
     dump_answer: DumpAnswer, 16 { number: 0, length: 8 }
+    capture_answer: CaptureAnswer, 16 { number: 0, length: 8 }
 }
 
 #[cfg(test)]

@@ -1,9 +1,9 @@
 //! The proved MC68681 serial chip, for Rust.
 //!
 //! The archive `libduart.a` holds the chip as `rt staticlib duart` compiles it from the proved source; this crate
-//! declares its eight names and gives them a safe face. What each call promises is the contract of the Rattle function
+//! declares its nine names and gives them a safe face. What each call promises is the contract of the Rattle function
 //! of that name: every call on every device and every event ends with an answer, a refused event leaves the device as
-//! it was, and a refused frame request, poll or dump leaves the space as it was.
+//! it was, and a refused frame request, poll, dump or capture leaves the space as it was.
 //!
 //! ```
 //! use duart::{Duart, Event, Refusal, Refused, Register};
@@ -18,9 +18,9 @@
 //! # }
 //! ```
 //!
-//! Each call that can be refused stands here twice: `step`, `poll`, `run_until_irq`, `dump` and `frame` answer a
-//! [`Result`]; `step_raw`, `poll_raw`, `run_until_irq_raw`, `dump_raw` and `frame_raw` the record as the archive gives
-//! it, whose number is 0 where it is accepted. The compiler warns where either is dropped:
+//! Each call that can be refused stands here twice: `step`, `poll`, `run_until_irq`, `dump`, `frame` and `capture` answer
+//! a [`Result`]; `step_raw`, `poll_raw`, `run_until_irq_raw`, `dump_raw`, `frame_raw` and `capture_raw` the record as the
+//! archive gives it, whose number is 0 where it is accepted. The compiler warns where either is dropped:
 //!
 //! ```compile_fail
 //! #![deny(unused_must_use)]
@@ -43,6 +43,7 @@ extern crate std;
 mod archive;
 pub mod bits;
 mod calls;
+mod capture;
 mod debug;
 pub mod device;
 mod dump;
@@ -56,6 +57,7 @@ mod show;
 mod state;
 
 pub use calls::{Polled, Ran, MOST_EVENTS, MOST_TICKS};
+pub use capture::{capture, capture_raw, characters, Capture, CaptureAnswer, Channel, Characters, Received, CAPTURE_SPACE};
 pub use device::Device;
 pub use dump::{dump_space, DumpAnswer, MOST_DUMPED};
 pub use event::{Event, EventRecord, FrameAnswer, Seen};
@@ -78,7 +80,7 @@ impl Duart {
     /// # Panics
     ///
     /// Where the archive has another [`ABI`] number, as each maker of a chip does, and each call that needs none
-    /// ([`frame`], [`Device::is_sound`]): its structs are others than those declared here.
+    /// ([`frame`], [`capture`](fn@capture), [`Device::is_sound`]): its structs are others than those declared here.
     #[must_use]
     pub fn fresh() -> Duart {
         assert_fits();

@@ -1,4 +1,5 @@
-//! Why something was refused: the numbers of document 01's table by name, and order 5's 9, which is order 6's too.
+//! Why something was refused: the numbers of document 01's table by name, order 5's 9, which is order 6's too, and order 7's
+//! 10 and 11.
 
 use crate::Seen;
 use core::fmt;
@@ -19,24 +20,28 @@ pub enum Refusal {
     ForbiddenRead,
     /// 4: "command whose bits 3-2 or 1-0 are 11"
     ForbiddenCommand,
-    /// 5: "a write (or frame request) choosing a setting not modelled"
+    /// 5: "a write (or frame request) choosing a setting not modelled"; (order 7) MR1 of a capture, and "a code above 12 too"
     NotModelled,
     /// 6: "acknowledge while IRQ is not asserted"
     NotAsserted,
     /// 7: "the new state would be unsound", which is proved never to be given
     NewUnsound,
-    /// 8: "lent space shorter than the frame", (order 5) "answer space shorter than the list", or (order 6) "short
-    /// space" for a dump
+    /// 8: "lent space shorter than the frame", (order 5) "answer space shorter than the list", (order 6) "short
+    /// space" for a dump, or (order 7) "either log too short"
     SpaceShort,
     /// 9 (order 5): "a list or budget over its limit"; (order 6) "a longer list" than a dump takes
     OverLimit,
+    /// 10 (order 7): "text outside the subset or a named wire missing"
+    OutsideSubset,
+    /// 11 (order 7): "a time not later than the one before"
+    TimeNotLater,
     /// A number that none of these has. The archive gives none; a record that was made by hand may have one.
     Other(u8),
 }
 
 impl Refusal {
     /// Those that have a name, in the order of their numbers, from 1 on.
-    pub const ALL: [Refusal; 9] = [
+    pub const ALL: [Refusal; 11] = [
         Refusal::Unsound,
         Refusal::RegisterAbove15,
         Refusal::ForbiddenRead,
@@ -46,6 +51,8 @@ impl Refusal {
         Refusal::NewUnsound,
         Refusal::SpaceShort,
         Refusal::OverLimit,
+        Refusal::OutsideSubset,
+        Refusal::TimeNotLater,
     ];
 
     /// What a number says: none for 0, accepted.
@@ -68,6 +75,8 @@ impl Refusal {
             Refusal::NewUnsound => 7,
             Refusal::SpaceShort => 8,
             Refusal::OverLimit => 9,
+            Refusal::OutsideSubset => 10,
+            Refusal::TimeNotLater => 11,
             Refusal::Other(number) => number,
         }
     }
@@ -85,6 +94,8 @@ impl fmt::Display for Refusal {
             Refusal::NewUnsound => "the new state would be unsound",
             Refusal::SpaceShort => "the space lent is too short",
             Refusal::OverLimit => "a list or a budget over its limit",
+            Refusal::OutsideSubset => "a text outside the subset, or a wire that it has not",
+            Refusal::TimeNotLater => "a time that is not later than the one before",
             Refusal::Other(_) => "a number without a meaning",
         };
         write!(to, "refused with {}: {why}", self.number())
@@ -134,7 +145,7 @@ mod tests {
         for number in 1..=255 {
             assert_eq!(Refusal::of_number(number).map(Refusal::number), Some(number));
         }
-        assert_eq!(Refusal::of_number(10), Some(Refusal::Other(10)));
+        assert_eq!(Refusal::of_number(12), Some(Refusal::Other(12)));
     }
 
     /// The events that document 01's rows 2 to 6 speak of.

@@ -8,7 +8,7 @@ pub const BREAK: u8 = 0b1000_0000;
 pub const FRAMING: u8 = 0b0100_0000;
 pub const PARITY: u8 = 0b0010_0000;
 
-#[derive(Clone, Copy)]
+#[derive(Clone, Copy, Debug, PartialEq, Eq)]
 pub struct Character {
     pub data: u8,
     pub marks: u8,

@@ -6,6 +6,7 @@
 //! order is named before it, of that order.
 
 pub mod calls;
+pub mod capture;
 pub mod channel;
 pub mod character;
 pub mod chip;
@@ -23,6 +24,7 @@ pub mod receiver;
 pub mod request;
 pub mod transmitter;
 
+mod capture_text;
 mod interrupts;
 mod refusals;
 mod registers;
@@ -31,6 +33,7 @@ mod registers;
 mod tests;
 
 pub use calls::{Polled, Ran};
+pub use capture::{capture, Captured};
 pub use chip::{Chip, Event, Seen};
 pub use dump::Dumped;
 pub use request::{frame, FrameAnswer};

@@ -1,6 +1,6 @@
 //! One receiver: what it does with the line, pulse by pulse, and its queue.
 
-use crate::character::Assembly;
+use crate::character::{Assembly, Character};
 use crate::format::{ClockKind, Setting};
 use crate::level::Level;
 use crate::queue::Queue;
@@ -199,6 +199,11 @@ impl Receiver {
         self.queue.clear();
     }
 
+    /// A receiver that nobody writes commands to, but that is enabled all the same (order 7).
+    pub fn just_enable(&mut self) {
+        self.enable();
+    }
+
     /// "Enabling it again changes nothing."
     fn enable(&mut self) {
         if !self.is_enabled() {
@@ -217,6 +222,12 @@ impl Receiver {
         if self.is_enabled() {
             self.sampler = Sampler::Hunting { high_seen: false };
         }
+    }
+
+    /// The oldest character with its own marks, taken. Where it is asked after each pulse none is ever lost (order 7).
+    pub fn take_character(&mut self) -> Option<Character> {
+        let marks = self.queue.oldest_marks();
+        self.queue.is_ready().then(|| Character { data: self.queue.read(), marks })
     }
 
     // ------------------------------------------------------------ what it shows

@@ -12,15 +12,20 @@ pub const REGISTER_ABOVE_15: u8 = 2;
 pub const READ_OF_NONE: u8 = 3;
 /// "command whose bits 3-2 or 1-0 are 11"
 pub const COMMAND_WITH_11: u8 = 4;
-/// "a write (or frame request) choosing a setting not modelled"
+/// "a write (or frame request) choosing a setting not modelled"; order 7: "5 (a code above 12 too)"
 pub const NOT_MODELLED: u8 = 5;
 /// "acknowledge while IRQ is not asserted"
 pub const NOT_ASSERTED: u8 = 6;
 /// "lent space shorter than the frame"; order 5: "8 for answer space shorter than the list"; order 6: "8 for short
-/// space, which then stays"
+/// space, which then stays"; order 7: "8 either log too short"
 pub const SPACE_TOO_SHORT: u8 = 8;
 /// Order 5: "9 for a list or budget over its limit"; order 6: "9 for a longer list"
 pub const OVER_THE_LIMIT: u8 = 9;
+/// Order 7: "10 text outside the subset or a named wire missing"
+pub const OUTSIDE_THE_SUBSET: u8 = 10;
+pub const WIRE_MISSING: u8 = 10;
+/// Order 7: "11 a time not later than the one before"
+pub const TIME_NOT_LATER: u8 = 11;
 
 impl Chip {
     /// The number of an event's answer. "Checked in this order."

@@ -51,7 +51,7 @@ fn name_of(line: &str) -> Option<String> {
     let line = line.strip_prefix("pub ").unwrap_or(line);
     let line = line.strip_prefix("extern \"C\" ").unwrap_or(line);
     let name = line.strip_prefix("fn ")?;
-    Some(name.split('(').next()?.to_string())
+    Some(name.split(['(', '<']).next()?.to_string())
 }
 
 /// What stands between ⌜ and ⌝ after each `ensures`, on one line, with the label between.

@@ -8,14 +8,8 @@ use lib.Dec.{leb}
 use borrow.Author.Tests.{leb-true, leb-false, le-leb, lt-leb}
 use Rattle.format.specs.Pick.{pick}
 use Rattle.format.proofs.Laws.Pick.{pick-yes, pick-no}
-use Rattle.replay_script.specs.Bytes.{digitOf}
+use Rattle.text.specs.Numbers.{digit, valueAfter, numberAfter, numberFrom}
 use Rattle.replay_script.specs.Script.{allDigits, valueFrom, valueOf, upTo}
-use Rattle.replay_script.specs.Reading.{valueAfter, numberAfter}
-
--- what is read of a word, after what was read before
-unfoldable pub numberFrom : ℕ → List ℕ → ℕ
-numberFrom n [] = n
-numberFrom n (b ∷ bs) = numberFrom (numberAfter n b) bs
 
 pub number-snoc : (n : ℕ) (w : List ℕ) (b : ℕ) → numberFrom n (w ++ b ∷ []) ≡ numberAfter (numberFrom n w) b
 unfolding numberFrom
@@ -27,7 +21,7 @@ capOf n = pick (leb n 4000000000) n 4000000001
 
 much-stays : (b : ℕ) → numberAfter 4000000001 b ≡ 4000000001
 unfolding numberAfter valueAfter pick
-much-stays b = go (digitOf b)
+much-stays b = go (digit b)
   where
     go : (t : Bool) → _≡_ {A = ℕ} (pick t 4000000001 4000000001) 4000000001
     go true = refl
@@ -53,7 +47,7 @@ cap-after n b = go (leb n 4000000000) refl
 number-capped : (n : ℕ) (w : List ℕ) → numberFrom (capOf n) w ≡ pick (allDigits w) (capOf (valueFrom n w)) 4000000001
 unfolding numberFrom allDigits valueFrom numberAfter pick
 number-capped n [] = refl
-number-capped n (b ∷ w) = go (number-capped (n * 10 + (b - 48)) w) (digitOf b)
+number-capped n (b ∷ w) = go (number-capped (n * 10 + (b - 48)) w) (digit b)
   where
     go : numberFrom (capOf (n * 10 + (b - 48))) w ≡ pick (allDigits w) (capOf (valueFrom (n * 10 + (b - 48)) w)) 4000000001
         → (t : Bool)

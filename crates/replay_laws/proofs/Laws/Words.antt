@@ -15,7 +15,8 @@ use Rattle.replay_script.specs.Reading.{started, commentAfter, wordsAfter, begu
 use Rattle.replay_script.specs.Lines.{toldOf}
 use Rattle.replay_script.specs.Agrees.{AreBytes}
 use Rattle.replay_laws.proofs.Laws.Names.{nameFrom, name-snoc}
-use Rattle.replay_laws.proofs.Laws.Numbers.{numberFrom, number-snoc}
+use Rattle.text.specs.Numbers.{numberFrom}
+use Rattle.replay_laws.proofs.Laws.Numbers.{number-snoc}
 
 -- the summary of these words
 unfoldable pub commentOf : List (List ℕ) → Bool

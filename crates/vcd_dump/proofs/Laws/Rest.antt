@@ -19,7 +19,7 @@ use Rattle.chip_step.specs.Chip.{stepOf, numberOf, takenOf, acceptedOf, refused
 use Rattle.chip_fast.specs.Fast.{isTick}
 use Rattle.vcd_text.specs.Header.{headerOf, chipWires}
 use Rattle.vcd_text.specs.Changes.{wavesText, dumpText}
-use Rattle.vcd_text.specs.Words.{writtenBefore, changesOf}
+use Rattle.vcd_text.specs.Words.{writtenBefore, changesText}
 use Rattle.vcd_dump.specs.declared.waves.Wave.{Wave}
 use Rattle.vcd_dump.specs.Waves.{valuesOf, eventsOf, wavesFrom}
 use Rattle.vcd_dump.specs.Wave.{endText, waveAfter, restOf}
@@ -51,7 +51,7 @@ module _ (w : Wave) (d : Device) (now : w .values ≡ valueOf (valuesOf (deviceL
   ended : (later : List (List Bool))
       → wavesText (w .tick) (writtenBefore (eqb (w .tick) 0) 11 (w .before)) (valuesOf (deviceLines d) ∷ later)
       ≡ endText w ++ wavesText (suc (w .tick)) (valuesOf (deviceLines d)) later
-  unfolding wavesText changesOf
+  unfolding wavesText changesText
   ended later = rw (now, values-bits (deviceLines d))
 
   ended-last : wavesText (w .tick) (writtenBefore (eqb (w .tick) 0) 11 (w .before)) (valuesOf (deviceLines d) ∷ []) ≡ endText w

@@ -22,7 +22,7 @@ use Rattle.records.specs.declared.records.EventRecord.{EventRecord}
 use Rattle.records.specs.Records.{eventOf}
 use Rattle.text.specs.Puts.{Puts}
 use Rattle.text.proofs.Laws.Puts.{puts-length, Left, left-as, left-then, left-last}
-use Rattle.vcd_text.specs.Words.{changesOf}
+use Rattle.vcd_text.specs.Words.{changesText}
 use Rattle.vcd_text.proofs.Laws.Words.{changes-within}
 use Rattle.vcd_dump.specs.declared.waves.Wave.{Wave}
 use Rattle.vcd_dump.specs.Waves.{valuesOf, recordsOf, eventsOf}

@@ -9,7 +9,8 @@ use Rattle.format.specs.Pick.{pick}
 use Rattle.text.specs.Decimal.{decimalOf}
 use Rattle.text.proofs.Laws.Decimal.{decimal-within}
 use Rattle.vcd_text.specs.Time.{timeOf}
-use Rattle.vcd_text.specs.Changes.{timeLine, valueLine, differ, valueLines, atTime}
+use Rattle.vcd_text.specs.Changes.{timeLine, valueLine, valueLines, atTime}
+use Rattle.vcd_text.specs.Lines.{lineText}
 
 -- values that are those written before are not written
 pub same-values : (code : ℕ) (vs : List Bool) → valueLines code vs vs ≡ []
@@ -27,7 +28,7 @@ cons-not-nil x xs e = let z : _≡_ {A = ℕ} 1 0 = ap nonEmpty e in omega arith
 
 -- where as many as before are not written, they are those
 pub no-values : (code : ℕ) (us vs : List Bool) → length us ≡ length vs → valueLines code us vs ≡ [] → us ≡ vs
-unfolding valueLines valueLine pick
+unfolding valueLines lineText pick
 no-values code [] [] l e = refl
 no-values code [] (v ∷ vs) l e = absurd (omega arith)
 no-values code (u ∷ us) [] l e = absurd (omega arith)
@@ -44,16 +45,16 @@ some-values n (x ∷ xs) h = refl
 
 -- how long they are at most
 pub time-within : (n : ℕ) → length (timeLine n) ≤ 22
-unfolding timeLine
+unfolding lineText
 time-within n = let h = decimal-within 20 (timeOf n) in simp length-append (omega arith)
 
 pub value-within : (changed : Bool) (code : ℕ) (level : Bool) → length (pick changed (valueLine code level) []) ≤ 3
-unfolding valueLine pick
+unfolding lineText pick
 value-within true code level = omega arith
 value-within false code level = omega arith
 
 pub values-within : (code : ℕ) (us vs : List Bool) → length (valueLines code us vs) ≤ 3 * length vs
-unfolding valueLines valueLine pick
+unfolding valueLines lineText pick
 values-within code us [] = omega arith
 values-within code [] (v ∷ vs) = let h = values-within (suc code) [] vs in omega arith
 values-within code (true ∷ us) (true ∷ vs) = let h = values-within (suc code) us vs in omega arith

@@ -13,7 +13,8 @@ use Rattle.format.specs.Pick.{pick}
 use Rattle.format.specs.Digits.{bitsOf, valueOf}
 use Rattle.format.proofs.Laws.Digits.{length-bits, value-bits}
 use Rattle.vcd_text.specs.Changes.{timeLine, valueLine, differ, valueLines, atTime}
-use Rattle.vcd_text.specs.Words.{writtenBefore, changesOf}
+use Rattle.vcd_text.specs.Lines.{lineText}
+use Rattle.vcd_text.specs.Words.{writtenBefore, changesText}
 use Rattle.vcd_text.proofs.Laws.Changes.{same-values, no-values, some-values, at-time-within, values-within}
 
 -- ---- wire by wire ----
@@ -52,25 +53,25 @@ bits-one w x y h k e =
 
 -- at time 0 all values
 pub first-changes : (n before values : ℕ) → n ≡ 0
-    → timeLine n ++ valueLines 33 (writtenBefore true 11 before) (bitsOf 11 values) ≡ changesOf n before values
-unfolding changesOf writtenBefore valueLines valueLine bitsOf atTime pick
+    → timeLine n ++ valueLines 33 (writtenBefore true 11 before) (bitsOf 11 values) ≡ changesText n before values
+unfolding changesText writtenBefore valueLines lineText bitsOf atTime pick
 first-changes n before values e = rw e
 
 -- nothing where the values are those written before
-pub no-changes : (n before values : ℕ) → (n ≡ 0 → ⊥) → before ≡ values → changesOf n before values ≡ []
-unfolding changesOf writtenBefore atTime pick
+pub no-changes : (n before values : ℕ) → (n ≡ 0 → ⊥) → before ≡ values → changesText n before values ≡ []
+unfolding changesText writtenBefore atTime pick
 no-changes n before values h e = rw (ne-eqb n 0 h, e, same-values 33 (bitsOf 11 values))
 
 pub some-changes : (n before values : ℕ) → (n ≡ 0 → ⊥) → (before ≡ values → ⊥) → before < 2 ^ 11 → values < 2 ^ 11
-    → timeLine n ++ valueLines 33 (writtenBefore false 11 before) (bitsOf 11 values) ≡ changesOf n before values
-unfolding changesOf writtenBefore pick
+    → timeLine n ++ valueLines 33 (writtenBefore false 11 before) (bitsOf 11 values) ≡ changesText n before values
+unfolding changesText writtenBefore pick
 some-changes n before values h d l k =
     rw (ne-eqb n 0 h)
     (sym (some-values n _ (λ (e : valueLines 33 (bitsOf 11 before) (bitsOf 11 values) ≡ []).
     d (bits-one 11 before values l k (no-values 33 _ _ (length-bits 11 before ∙ sym (length-bits 11 values)) e)))))
 
-pub changes-within : (n before values : ℕ) → length (changesOf n before values) ≤ 55
-unfolding changesOf
+pub changes-within : (n before values : ℕ) → length (changesText n before values) ≤ 55
+unfolding changesText
 changes-within n before values =
     let a = at-time-within n (valueLines 33 (writtenBefore (eqb n 0) 11 before) (bitsOf 11 values)) in
     let b = values-within 33 (writtenBefore (eqb n 0) 11 before) (bitsOf 11 values) in

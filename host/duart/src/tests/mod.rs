@@ -1,6 +1,7 @@
-//! The calls of one event.
+//! The calls of one event, and of a capture.
 
 mod bits;
+mod capturing;
 mod refusing;
 
 use crate::{mode, Duart, Event, Seen};

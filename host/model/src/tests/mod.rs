@@ -1,8 +1,13 @@
-//! The model's tests, all through `Chip::step`, `poll`, `run`, `dump` and `frame`: the eleven cases, the traps, the open points of
-//! document 01 as docs/DECISIONS.md decides them, and the orders of document 02.
+//! The model's tests, all through `Chip::step`, `poll`, `run`, `dump`, `frame` and `capture`: the eleven cases, the traps,
+//! the open points of document 01 as docs/DECISIONS.md decides them, and the orders of document 02.
 
 mod board;
 mod breaks;
+mod capture_lines;
+mod capture_refusals;
+mod capture_waves;
+mod captures;
+mod capturing;
 mod cases;
 mod clocks;
 mod counting;

@@ -6,7 +6,7 @@ use native.Mathlib.Omega.{arith}
 use Rattle.text.specs.Decimal.{decimalOf}
 use Rattle.text.proofs.Laws.Decimal.{decimal-within}
 use Rattle.text.proofs.Laws.Puts.{puts-one, puts-then, puts-as}
-use Rattle.vcd_text.specs.Changes.{timeLine}
+use Rattle.vcd_text.specs.Lines.{lineText}
 use borrow.Author.Needs.{needs}
 use Rattle.vcd_text.proofs.lines.put_time.Statement.{statement}
 use Rattle.vcd_text.proofs.lines.put_time.Tie as tie
@@ -36,7 +36,7 @@ same-length : tie.Need-same-length
 same-length c = search needs
 
 returns : tie.Need-returns
-unfolding timeLine
+unfolding lineText
 returns c =
     let last = c .before .before in
     let number = last .before .before .before .before in

@@ -6,7 +6,7 @@ use native.Mathlib.Omega.{arith}
 use denote.Ref.{now}
 use Rattle.format.proofs.Laws.Pick.{pick-yes, pick-no}
 use Rattle.text.proofs.Laws.Puts.{puts-none, puts-one, puts-then, puts-as}
-use Rattle.vcd_text.specs.Changes.{valueLine}
+use Rattle.vcd_text.specs.Lines.{lineText}
 use borrow.Author.Needs.{needs}
 use Rattle.vcd_text.proofs.lines.put_value.Statement.{statement}
 use Rattle.vcd_text.proofs.lines.put_value.Tie as tie
@@ -36,7 +36,7 @@ same-length : tie.Need-same-length
 same-length c = search needs
 
 returns : tie.Need-returns
-unfolding valueLine
+unfolding lineText
 returns c =
     let last = c .before .before in
     let second = last .before .before .before .before in

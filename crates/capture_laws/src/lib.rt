@@ -1,0 +1,1 @@
+// What a capture of a dump gives back: theorems only.

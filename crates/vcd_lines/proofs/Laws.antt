@@ -1,0 +1,2 @@
+-- The laws of lines that are read. Assumes nothing.
+pub mod Reads

@@ -1,0 +1,1 @@
+// Which texts order 7 reads: theorems only.
