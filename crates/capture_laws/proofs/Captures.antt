@@ -14,7 +14,6 @@ use Rattle.feed.specs.declared.feed.Setting.{Setting}
 use Rattle.character.specs.declared.character.Character.{Character}
 use Rattle.sampler_state.specs.State.{hunting}
 use Rattle.sampler.specs.Lines.{at16, arrivals}
-use Rattle.sampler.specs.Lines as Hearing
 use Rattle.dividers.proofs.Laws.Rates.{period-between}
 use Rattle.vcd_text.specs.Header.{Wire, headerOf}
 use Rattle.vcd_text.specs.Time.{timeOf}
@@ -33,9 +32,9 @@ use Rattle.vcd_capture.specs.declared.capturing.Asked.{Asked}
 use Rattle.vcd_capture.specs.Logs.{logBytes}
 use Rattle.vcd_capture.specs.Ear.{ticksBefore, pulsesBefore, heardFrom, justEnabled}
 use Rattle.vcd_capture.specs.Capture.{settingOf, endOf, captureRefusal, logA, logB, numberOf}
-use Rattle.vcd_capture.specs.Waves.{pulsesOver, NoneAfter}
+use Rattle.vcd_capture.specs.Waves.{levelPulses, NoneAfter}
 use Rattle.vcd_capture.proofs.Laws.Waves.{early, late, text-heard}
-use Rattle.capture_laws.specs.Captures.{levelPulses, periodFor, Heard, lastOf, HeardBy, sampledOn, Logged, Modelled, Log, Captures}
+use Rattle.capture_laws.specs.Captures.{periodFor, Heard, lastOf, HeardBy, sampledOn, Logged, Modelled, Log, Captures}
 
 -- ---- the last time ----
 
@@ -67,12 +66,6 @@ unfolding readable
 lines-any known timed [] h = tt
 lines-any known timed (Time t ∷ ls) (l, h) = (l, lines-any known true ls h)
 lines-any known timed (Value c v ∷ ls) (t, (k, h)) = (t, (refl, lines-any known timed ls h))
-
-over-is : (period : ℕ) (f : Setting) (code : ℕ) (ls : List Line) (n first : ℕ)
-    → pulsesOver period f code true ls first n ≡ levelPulses (sampledOn code ls) period f first n
-unfolding pulsesOver levelPulses
-over-is period f code ls zero first = refl
-over-is period f code ls (suc n) first = rw (over-is period f code ls n (suc first))
 
 -- ---- where the times end ----
 
@@ -137,7 +130,7 @@ module _ (q : Asked) (p : ℕ) (period : periodFor q ≡ suc p) (code : ℕ) (ls
   unfolding settingOf
   lines-heard r rises =
       let end = endOf (timesFrom noTimes ls) in
-      rw (period, text-heard p f code end ls r (none-after noTimes 0 ls rises), over-is (suc p) f code ls (pulsesBefore (suc p) end) 1)
+      rw (period, text-heard p f code end ls r (none-after noTimes 0 ls rises))
       (heard-by (timesOf ls) refl)
 
 -- ---- the numbers ----

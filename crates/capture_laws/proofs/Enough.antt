@@ -29,7 +29,8 @@ use Rattle.vcd_text.specs.Lines.Line.{Time, Value}
 use Rattle.vcd_subset.specs.Subset.{Named, GoodLines, Says}
 use Rattle.vcd_capture.specs.declared.capturing.Asked.{Asked}
 use Rattle.vcd_capture.proofs.Laws.Hearing.{log-length}
-use Rattle.capture_laws.specs.Captures.{levelPulses, periodFor, Heard, lastOf, HeardBy, sampledOn, Modelled}
+use Rattle.vcd_capture.specs.Waves.{levelPulses}
+use Rattle.capture_laws.specs.Captures.{periodFor, Heard, lastOf, HeardBy, sampledOn, Modelled}
 use Rattle.capture_laws.specs.Enough.{Enough}
 use Rattle.capture_laws.proofs.Captures.{logOn, captures}
 

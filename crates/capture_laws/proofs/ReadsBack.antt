@@ -31,7 +31,8 @@ use Rattle.vcd_laws.proofs.Lines.{linesOf}
 use Rattle.vcd_laws.proofs.Shows.{dumpLines, shows}
 use Rattle.vcd_capture.specs.declared.capturing.Asked.{Asked}
 use Rattle.vcd_capture.specs.Capture.{numberOf}
-use Rattle.capture_laws.specs.Captures.{levelPulses, periodFor, Heard, lastOf, HeardBy, sampledOn, Logged}
+use Rattle.vcd_capture.specs.Waves.{levelPulses}
+use Rattle.capture_laws.specs.Captures.{periodFor, Heard, lastOf, HeardBy, sampledOn, Logged}
 use Rattle.capture_laws.specs.ReadsBack.{eventsTo, chipLine, shownOf, ReadsBack}
 use Rattle.capture_laws.proofs.Captures.{logOn, captures}
 use Rattle.capture_laws.proofs.Dumps.{dump-says, lines-none, last-within}

@@ -1,16 +1,14 @@
 -- Order 7, of a capture by what its text says, whoever reads it. Assumes nothing.
-use Prim.Native.Nat.{ℕ, zero, suc, _*_, _≤_, _<_}
+use Prim.Native.Nat.{ℕ, suc, _*_, _≤_, _<_}
 use mathlib.Core.Path.{_≡_}
 use mathlib.Core.Bool.{Bool, true, false}
 use mathlib.Core.List.{List, [], _∷_}
 use lib.ListN.{length}
 use Rattle.format.specs.Pick.{pick}
 use Rattle.format.specs.Format.{mr1NotModelled, formatOf}
-use Rattle.feed.specs.declared.feed.Setting.{Setting}
 use Rattle.character.specs.declared.character.Character.{Character}
 use Rattle.sampler_state.specs.State.{hunting}
 use Rattle.sampler.specs.Lines.{at16, arrivals}
-use Rattle.sampler.specs.Lines as Hearing
 use Rattle.dividers.specs.Rates.{periodOf}
 use Rattle.vcd_text.specs.Header.{Wire}
 use Rattle.vcd_text.specs.Time.{timeOf}
@@ -18,14 +16,9 @@ use Rattle.vcd_text.specs.Lines.{Line, levelAt, timesOf, RisesFrom}
 use Rattle.vcd_subset.specs.Subset.{Named, Says}
 use Rattle.vcd_capture.specs.declared.capturing.Asked.{Asked}
 use Rattle.vcd_capture.specs.Logs.{logBytes}
+use Rattle.vcd_capture.specs.Waves.{levelPulses}
 
 -- ---- the characters of a line ----
-
--- "phase 0": pulse j comes with tick j x period; so many of them from this one on
-unfoldable pub levelPulses : (ℕ → Bool) → ℕ → Setting → ℕ → ℕ → List Hearing.Line
-levelPulses level period f first zero = []
-levelPulses level period f first (suc n) =
-    Hearing.Line.pulse (level (first * period)) f ∷ levelPulses level period f (suc first) n
 
 -- ticks per 16X pulse, "for a given MR1, ACR bit 7 and CSR code"
 abbrev pub periodFor : Asked → ℕ

@@ -16,12 +16,12 @@ use Rattle.vcd_capture.specs.Logs.{marksByte, characterBytes, logBytes}
 use Rattle.vcd_capture.specs.Ear.{ticksBefore, pulsesBefore, earUntil, heardUntil, earValue, earSaid, heardSaid}
 use Rattle.vcd_capture.specs.Ear.{heardFrom}
 use Rattle.vcd_capture.specs.Capture.{settingOf, endOf, captureRefusal, capturedOf, logAfter, handedOf}
-use Rattle.vcd_capture.specs.Waves.{pulsesOver}
+use Rattle.vcd_capture.specs.Waves.{levelPulses}
 
 unfoldable pub capturing : Bool
 unfolding reading Sampling.computing periodOf afterLines arrivals levelAt marksByte characterBytes logBytes ticksBefore
     pulsesBefore earUntil heardUntil earValue earSaid heardSaid heardFrom settingOf endOf captureRefusal capturedOf
-    logAfter handedOf pulsesOver
+    logAfter handedOf levelPulses
 capturing = true
 
 -- MR1 16: 5 data bits, no parity. Code 12 with ACR bit 7 = 0: 38,400 baud, a pulse each 6 ticks; 26,042 ns a bit

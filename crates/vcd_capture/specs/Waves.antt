@@ -10,12 +10,16 @@ use Rattle.vcd_text.specs.Time.{timeOf}
 use Rattle.vcd_text.specs.Lines.{Line, levelAt}
 use Rattle.vcd_text.specs.Lines.Line.{Time, Value}
 
--- so many pulses from this one on
-unfoldable pub pulsesOver : ℕ → Setting → ℕ → Bool → List Line → ℕ → ℕ → List Hearing.Line
-pulsesOver period f code level ls first zero = []
-pulsesOver period f code level ls first (suc n) =
-    Hearing.Line.pulse (levelAt (timeOf (first * period)) code level ls) f
-    ∷ pulsesOver period f code level ls (suc first) n
+-- "phase 0": pulse j comes with tick j x period; so many of them from this one on, of a line with this level at each tick
+unfoldable pub levelPulses : (ℕ → Bool) → ℕ → Setting → ℕ → ℕ → List Hearing.Line
+levelPulses level period f first zero = []
+levelPulses level period f first (suc n) =
+    Hearing.Line.pulse (level (first * period)) f ∷ levelPulses level period f (suc first) n
+
+-- those of a wire with these lines, which has this level before them
+abbrev pub pulsesOver : ℕ → Setting → ℕ → Bool → List Line → ℕ → ℕ → List Hearing.Line
+pulsesOver period f code level ls first n =
+    levelPulses (λ (k : ℕ). levelAt (timeOf k) code level ls) period f first n
 
 -- no time is after this one
 unfoldable pub NoneAfter : ℕ → List Line → Type 0

@@ -24,7 +24,7 @@ use Rattle.vcd_lines.proofs.Laws.Reads.{readable, lines-read}
 use Rattle.sampler_state.specs.State.{hunting}
 use Rattle.vcd_capture.specs.declared.ear.Ear.{Ear}
 use Rattle.vcd_capture.specs.Ear.{ticksBefore, pulsesBefore, pulsesAt, pulsesTo, earUntil, heardUntil, earValue, earSaid, heardSaid, heardFrom, justEnabled}
-use Rattle.vcd_capture.specs.Waves.{pulsesOver, NoneAfter}
+use Rattle.vcd_capture.specs.Waves.{levelPulses, pulsesOver, NoneAfter}
 use Rattle.vcd_capture.proofs.Laws.Hops.{arrivals-append}
 
 -- ---- line by line ----
@@ -79,32 +79,32 @@ module _ (p : ℕ) where
   module _ (f : Setting) (code : ℕ) where
     over-early : (level : Bool) (t : ℕ) (ls : List Line) (n k : ℕ) → n ≤ pulsesBefore (suc p) t - k
         → pulsesOver (suc p) f code level (Time t ∷ ls) (suc k) n ≡ pulsesAt n level f
-    unfolding pulsesOver levelAt pick
+    unfolding levelPulses levelAt pick
     over-early level t ls zero k h = refl
     over-early level t ls (suc n) k h =
         rw (early (suc k) t (zero-lt-suc k) (omega arith), over-early level t ls n (suc k) (omega arith))
 
     over-late : (level : Bool) (t : ℕ) (ls : List Line) (n k : ℕ) → pulsesBefore (suc p) t ≤ k
         → pulsesOver (suc p) f code level (Time t ∷ ls) (suc k) n ≡ pulsesOver (suc p) f code level ls (suc k) n
-    unfolding pulsesOver levelAt pick
+    unfolding levelPulses levelAt pick
     over-late level t ls zero k h = refl
     over-late level t ls (suc n) k h =
         rw (late (suc k) t (omega arith), over-late level t ls n (suc k) (omega arith))
 
     over-none : (level : Bool) (n k : ℕ) → pulsesOver (suc p) f code level [] k n ≡ pulsesAt n level f
-    unfolding pulsesOver levelAt
+    unfolding levelPulses levelAt
     over-none level zero k = refl
     over-none level (suc n) k = rw (over-none level n (suc k))
 
     over-value : (level : Bool) (c : ℕ) (v : Bool) (ls : List Line) (n k : ℕ)
         → pulsesOver (suc p) f code level (Value c v ∷ ls) k n ≡ pulsesOver (suc p) f code (pick (eqb c code) v level) ls k n
-    unfolding pulsesOver levelAt
+    unfolding levelPulses levelAt
     over-value level c v ls zero k = refl
     over-value level c v ls (suc n) k = rw (over-value level c v ls n (suc k))
 
     over-append : (level : Bool) (ls : List Line) (a b k : ℕ)
         → pulsesOver (suc p) f code level ls k (a + b) ≡ pulsesOver (suc p) f code level ls k a ++ pulsesOver (suc p) f code level ls (k + a) b
-    unfolding pulsesOver
+    unfolding levelPulses
     over-append level ls zero b k = let e : k + 0 ≡ k = omega arith in let z : 0 + b ≡ b = omega arith in rw (e, z)
     over-append level ls (suc a) b k =
         let e : k + suc a ≡ suc k + a = omega arith in
