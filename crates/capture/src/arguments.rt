@@ -5,7 +5,7 @@ ghost use Rattle.capture.specs.Arguments.{spelled, asked_of};
 use text::number_after;
 use vcd_capture::Asked;
 
-#[derive(Drop)]
+#[derive(Clone, Copy)]
 pub enum Numbers {
     Wrong,
     Read(Asked),

@@ -1,5 +1,7 @@
 // "Read a capture from the mill": `capture MR1 ACR7 CODE NAMEA NAMEB`, with the text on standard input. The characters
 // are `vcd_capture`'s.
+#![tactic(auto)]
+
 mod arguments;
 mod lines;
 mod said;

@@ -1,1 +1,2 @@
 // What a capture of a dump gives back: theorems only.
+#![tactic(auto)]

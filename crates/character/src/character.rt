@@ -4,7 +4,7 @@ ghost use Rattle.character.specs.Character.{no_marks, or_marks, unmarked_of, no_
 
 // "break, framing, parity": the marks that SR bits 7 to 5 show.
 #[repr(C)]
-#[derive(Drop)]
+#[derive(Clone, Copy)]
 pub struct Marks {
     pub broken: bool,
     pub framing: bool,
@@ -13,7 +13,7 @@ pub struct Marks {
 
 // A character as the queue holds it.
 #[repr(C)]
-#[derive(Drop)]
+#[derive(Clone, Copy)]
 pub struct Character {
     pub byte: u8,
     pub marks: Marks,

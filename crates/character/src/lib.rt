@@ -2,6 +2,8 @@
 //
 // It stands below the sampler, which puts characters together, and the queue, which moves them whole,
 // so that neither of the two sees the other.
+#![tactic(auto)]
+
 mod character;
 
 pub use character::{

@@ -15,7 +15,7 @@ use timer_state::{is_timer, mode_of};
 
 // "IRQ (1 when asserted), TxDA, TxDB, the OP0-OP7 levels"
 #[repr(C)]
-#[derive(Drop)]
+#[derive(Clone, Copy)]
 pub struct Lines {
     pub irq: bool,
     pub txda: bool,

@@ -9,7 +9,7 @@ use front::{Front, front_at};
 use receiver_state::{Receiver, fresh_receiver};
 
 #[repr(C)]
-#[derive(Drop)]
+#[derive(Clone, Copy)]
 pub struct Device {
     pub front: Front,
     pub a: Receiver,

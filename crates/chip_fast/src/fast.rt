@@ -154,7 +154,7 @@ pub fn swift_step(device: Device, event: Event) -> Answer
 }
 
 // So many still ticks, and the device after them and one tick more, of any kind.
-#[derive(Drop)]
+#[derive(Clone, Copy)]
 pub struct Hopped {
     pub still: Ticks,
     pub state: Device,

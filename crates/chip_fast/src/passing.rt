@@ -65,7 +65,7 @@ pub fn front_room(front: Front) -> Ticks
 }
 
 // What moves in still ticks, and nothing else: the phases of the four clocks, the count and the phase of ticks/16.
-#[derive(Drop)]
+#[derive(Clone, Copy)]
 pub struct Counts {
     pub rxca: Ticks,
     pub txca: Ticks,

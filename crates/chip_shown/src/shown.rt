@@ -10,7 +10,7 @@ use receiver_status::{Status, show_status};
 use transmitter::TransmitterStatus;
 
 // What a channel shows in SR and ISR.
-#[derive(Drop)]
+#[derive(Clone, Copy)]
 pub struct Shown {
     // SR
     pub status: u8,

@@ -13,7 +13,7 @@ use receiver::feed_receiver;
 // "The answer has the number, the data byte (0 where none is read), IRQ (1 when asserted), TxDA, TxDB, the OP0-OP7
 // levels and the new state."; order 1: "The receive buffer read shall also say fresh or stale".
 #[repr(C)]
-#[derive(Drop)]
+#[derive(Clone, Copy)]
 pub struct Answer {
     pub state: Device,
     pub number: u8,
@@ -23,7 +23,7 @@ pub struct Answer {
 }
 
 // The new state, before it is looked at, the data byte, and whether it is fresh.
-#[derive(Drop)]
+#[derive(Clone, Copy)]
 pub struct Taken {
     pub state: Device,
     pub byte: u8,

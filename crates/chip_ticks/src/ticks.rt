@@ -10,7 +10,7 @@ use events::Event;
 use format::Ticks;
 
 // How many ticks were spent, and the state after them.
-#[derive(Drop)]
+#[derive(Clone, Copy)]
 pub struct Spent {
     pub ticks: u64,
     pub state: Device,

@@ -7,7 +7,7 @@ use chip_answers::{Lines, no_lines};
 use chip_device::{Device, device_lines, is_sound};
 
 // "reports how many ticks it took"; the lines are those of the state.
-#[derive(Drop)]
+#[derive(Clone, Copy)]
 pub struct Ran {
     pub number: u8,
     pub ticks: u32,

@@ -14,7 +14,7 @@ const PIN_1X: u8 = 15;
 
 // A channel's phases.
 #[repr(C)]
-#[derive(Drop)]
+#[derive(Clone, Copy)]
 pub struct Phases {
     // of the receiver's divider
     pub receiver: Ticks,
@@ -25,7 +25,7 @@ pub struct Phases {
 }
 
 // What an event brings to a channel's clocks.
-#[derive(Drop)]
+#[derive(Clone, Copy)]
 pub struct ClockEvent {
     // a tick of the crystal
     pub tick: bool,
@@ -38,7 +38,7 @@ pub struct ClockEvent {
 }
 
 // A channel's clocks after an event, and what it pulsed.
-#[derive(Drop)]
+#[derive(Clone, Copy)]
 pub struct Clocked {
     pub phases: Phases,
     pub receiver: bool,

@@ -1,5 +1,7 @@
 // The clocks of a channel of the MC68681: what gives each side its pulses. specs/ has its definitions
 // under the same name.
+#![tactic(auto)]
+
 mod channel;
 
 pub use channel::{

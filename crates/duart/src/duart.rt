@@ -21,7 +21,7 @@ use vcd_dump::{DumpAnswer, dump};
 
 // order 5: "the count says how many were written, and the call itself answers 0", or why it is refused.
 #[repr(C)]
-#[derive(Drop)]
+#[derive(Clone, Copy)]
 pub struct PolledSeen {
     pub number: u8,
     pub count: usize,
@@ -29,7 +29,7 @@ pub struct PolledSeen {
 
 // order 5: "reports how many ticks it took"; "state and lines equal the single ticks".
 #[repr(C)]
-#[derive(Drop)]
+#[derive(Clone, Copy)]
 pub struct RanSeen {
     pub number: u8,
     pub ticks: u32,
@@ -42,7 +42,7 @@ pub struct RanSeen {
 
 // order 7: the number, and the length of "the filled part of that channel's log".
 #[repr(C)]
-#[derive(Drop)]
+#[derive(Clone, Copy)]
 pub struct CaptureAnswer {
     pub number: u8,
     pub length: usize,

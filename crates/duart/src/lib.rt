@@ -1,4 +1,6 @@
 // What a board maker links: the device lent to one thin step, and the names for C. include/duart.h declares them.
+#![tactic(auto)]
+
 mod duart;
 
 pub use duart::{

@@ -1,5 +1,7 @@
 // Dumps the lines of a fresh device over a script from standard input. What a line says and which line it is are the
 // crate `replay_script`'s; the text is `vcd_dump`'s.
+#![tactic(auto)]
+
 ghost use Rattle.std.specs.Prelude.{◌≤◌};
 
 use chip_device::fresh;
@@ -12,13 +14,13 @@ use text::put;
 use vcd_dump::dump;
 
 // Where in the script we are, and how many events it has so far.
-#[derive(Drop)]
+#[derive(Clone, Copy)]
 struct Run {
     place: Place,
     count: usize,
 }
 
-#[derive(Drop)]
+#[derive(Clone, Copy)]
 struct Turn {
     run: Run,
     more: bool,

@@ -1,6 +1,6 @@
 // "Events: chip reset; read register n; write register n with a byte; interrupt acknowledge; pins (byte: bits
 // 0-5 IP0-IP5, 6 RxDA, 7 RxDB); tick."
-#[derive(Drop)]
+#[derive(Clone, Copy)]
 pub enum Event {
     ChipReset,
     // the register

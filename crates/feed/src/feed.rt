@@ -4,7 +4,7 @@ use format::Format;
 // What a pulse of the receiver's clock carries beside the level: the format, and 16X or 1X, as the
 // registers stand.
 #[repr(C)]
-#[derive(Drop)]
+#[derive(Clone, Copy)]
 pub struct Setting {
     pub format: Format,
     // 16X rather than 1X
@@ -12,7 +12,7 @@ pub struct Setting {
 }
 
 // What bits 6-4 of a command do to a receiver.
-#[derive(Drop)]
+#[derive(Clone, Copy)]
 pub enum Effect {
     NoEffect,
     // 2 reset receiver
@@ -25,7 +25,7 @@ pub enum Effect {
 
 // What bits 1-0 of a command then do to it: `Enables` one that was off. "Enabling it again changes
 // nothing.": that is `Stays`. Order 2: a mode change "leaves an enabled receiver as just enabled", by `Enables`.
-#[derive(Drop)]
+#[derive(Clone, Copy)]
 pub enum Enabling {
     Stays,
     Enables,
@@ -34,7 +34,7 @@ pub enum Enabling {
 
 // What one event hands to a receiver. A pulse reaches an enabled one only: the level of the line, the
 // format and 16X or 1X as they stand.
-#[derive(Drop)]
+#[derive(Clone, Copy)]
 pub enum Feed {
     Nothing,
     Pulse(bool, Setting),

@@ -7,7 +7,7 @@ use crate::counts::Bits;
 // What MR1 says of a character: transmitter and receiver both go by it. The stop code stands in MR2
 // and is the transmitter's alone.
 #[repr(C)]
-#[derive(Drop)]
+#[derive(Clone, Copy)]
 pub struct Format {
     // data bits
     pub width: Bits,

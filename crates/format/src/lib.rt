@@ -3,6 +3,8 @@
 //
 // One file a topic. specs/ has the definitions of each under the same name, and beside them two that
 // all of them use: Digits, a number's bits, and Pick, a choice by a test.
+#![tactic(auto)]
+
 pub mod counts;
 pub mod format;
 pub mod parity;

@@ -10,7 +10,7 @@ use format::{
 // The bits before the stop as a shift register holds them, the lowest first on the line, and high
 // past them.
 #[repr(C)]
-#[derive(Drop)]
+#[derive(Clone, Copy)]
 pub struct FrameBits(pub u16);
 
 // "Start bit 0, data lowest bit first, parity if any"

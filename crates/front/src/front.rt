@@ -9,7 +9,7 @@ use outputs::{Outputs, fresh_outputs};
 use timer_state::{Timer, fresh_timer};
 
 #[repr(C)]
-#[derive(Drop)]
+#[derive(Clone, Copy)]
 pub struct Front {
     pub a: Side,
     pub b: Side,
@@ -22,7 +22,7 @@ pub struct Front {
 }
 
 // The front after an event, and what each receiver is handed.
-#[derive(Drop)]
+#[derive(Clone, Copy)]
 pub struct Handed {
     pub front: Front,
     pub a: Feed,
@@ -30,7 +30,7 @@ pub struct Handed {
 }
 
 // The same of one side.
-#[derive(Drop)]
+#[derive(Clone, Copy)]
 pub struct SideHanded {
     pub side: Side,
     pub feed: Feed,

@@ -2,6 +2,8 @@
 // echoed level, the transmitter and the phases of its clocks. A and B are two of these.
 //
 // Of the receiver the side knows its enable alone.
+#![tactic(auto)]
+
 mod side;
 
 pub use side::{

@@ -9,7 +9,7 @@ use transmitter::{Input, step_transmitter};
 use transmitter_state::{Transmitter, fresh_transmitter};
 
 #[repr(C)]
-#[derive(Drop)]
+#[derive(Clone, Copy)]
 pub struct Side {
     pub mr1: u8,
     pub mr2: u8,

@@ -12,7 +12,7 @@ use inputs::ChannelPins;
 use transmitter_state::{Standing, Transmitter};
 
 // A side after a tick or a pin event.
-#[derive(Drop)]
+#[derive(Clone, Copy)]
 pub struct Clocking {
     pub side: Side,
     // what its receiver is handed

@@ -6,7 +6,7 @@ ghost use Rattle.inputs.specs.Inputs.{has_chosen_change, channel_pins, pins_of_a
 use bytes::has_bit;
 
 #[repr(C)]
-#[derive(Drop)]
+#[derive(Clone, Copy)]
 pub struct Inputs {
     // "bits 0-5 IP0-IP5, 6 RxDA, 7 RxDB": 1 is high
     pub levels: u8,
@@ -15,7 +15,7 @@ pub struct Inputs {
 }
 
 // A channel's pins in an event.
-#[derive(Drop)]
+#[derive(Clone, Copy)]
 pub struct ChannelPins {
     // the levels of CTS and of RxD
     pub cts: bool,

@@ -1,4 +1,6 @@
 // The input pins of the MC68681: their levels, their edges, the change flags, and which pin is whose.
+#![tactic(auto)]
+
 mod inputs;
 
 pub use inputs::{

@@ -1,10 +1,12 @@
 // "The frame lister (program) sends standard input on A as in case 4, one line of ten mid-bit levels per byte, no header."
+#![tactic(auto)]
+
 use chip_device::Device;
 use libc::{STDIN_FILENO, STDOUT_FILENO};
 use lister_line::{list_byte, prepared};
 
 // The device, and whether all was written so far.
-#[derive(Drop)]
+#[derive(Clone, Copy)]
 struct Run {
     device: Device,
     go: bool,

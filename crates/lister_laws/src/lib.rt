@@ -1,1 +1,2 @@
 // What the frame lister prints, for every input: theorems only, no code.
+#![tactic(auto)]

@@ -10,7 +10,7 @@ use events::Event;
 use format::Ticks;
 
 // What a byte brings: "one line of ten mid-bit levels per byte", and the state that the next byte finds.
-#[derive(Drop)]
+#[derive(Clone, Copy)]
 pub struct Listed {
     pub line: [u8; 11],
     pub state: Device,

@@ -5,7 +5,7 @@ use chip_device::fresh;
 use chip_step::{Answer, step};
 use events::Event;
 
-#[derive(Drop)]
+#[derive(Clone, Copy)]
 pub struct Bench {
     pub answer: Answer,
     pub pins: u8,
@@ -65,7 +65,7 @@ pub fn act(bench: Bench, event: Event) -> Bench {
 }
 
 // What each turn does, and when no more is wanted.
-#[derive(Drop)]
+#[derive(Clone, Copy)]
 pub enum Wish {
     // a tick
     Ticks,
@@ -170,7 +170,7 @@ fn is_over(wish: Wish, turns: u64, byte: u8, fresh: bool, lines: Lines) -> bool 
 }
 
 // Where it stopped, and after how many turns.
-#[derive(Drop)]
+#[derive(Clone, Copy)]
 pub struct Stopped {
     pub bench: Bench,
     pub turns: u64,

@@ -2,6 +2,8 @@
 // example: its name and source, what came, and what the comparison says: that it is as the manual says, or that 01 or
 // document 02 decides and what it fixes, where the manual is open or says another thing, or DIFFERS. Quotations here
 // are the manuals', or marked as 01's or an order's.
+#![tactic(auto)]
+
 mod bench;
 mod break_change;
 mod command_table;

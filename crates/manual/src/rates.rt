@@ -7,7 +7,7 @@ use events::Event;
 
 // A row of table 4-5, with the code and the sets of the clock-select table (004, 4.2): the rate in tenths
 // of a bit a second, the 16X clock in hertz, and the error in thousandths of a percent.
-#[derive(Drop)]
+#[derive(Clone, Copy)]
 struct Rate {
     tenths: u64,
     code: u8,
@@ -32,7 +32,7 @@ pub fn sending(acr: u8, csr: u8, mr1: u8, mr2: u8, byte: u8) -> Bench {
 }
 
 // So far: TxDA's level now, the ticks of the first bit, and whether all others took as many.
-#[derive(Drop)]
+#[derive(Clone, Copy)]
 struct Measured {
     bench: Bench,
     level: bool,

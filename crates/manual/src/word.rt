@@ -20,7 +20,7 @@
 use crate::bench::LOOPED_TURNS;
 use events::Event;
 
-#[derive(Drop)]
+#[derive(Clone, Copy)]
 pub struct Word {
     pub letter: u8,
     // the number before a comma
@@ -30,7 +30,7 @@ pub struct Word {
 }
 
 // What the chip answers, as far as it can be seen.
-#[derive(Drop)]
+#[derive(Clone, Copy)]
 pub struct Look {
     pub number: u8,
     pub byte: u8,

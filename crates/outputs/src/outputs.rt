@@ -6,7 +6,7 @@ ghost use Rattle.outputs.specs.Outputs.{driven_by, driven_op3, op_levels};
 use bytes::{byte_of, has_bit};
 
 #[repr(C)]
-#[derive(Drop)]
+#[derive(Clone, Copy)]
 pub struct Outputs {
     // the output bits
     pub bits: u8,

@@ -11,7 +11,7 @@ use records::{EventRecord, Seen, event_of, seen_of};
 
 // "the call itself answers 0", or why it is refused; "the count says how many were written"; "the last state"
 #[repr(C)]
-#[derive(Drop)]
+#[derive(Clone, Copy)]
 pub struct Polled {
     pub number: u8,
     pub count: usize,

@@ -2,6 +2,8 @@
 //
 // It stands in a crate of its own because it never looks at the sampler, nor into a character: it
 // moves them whole. specs/ has the definitions, first over a list of those held, then over this layout.
+#![tactic(auto)]
+
 mod queue;
 
 pub use queue::{

@@ -8,7 +8,7 @@ use character::{Character, no_character};
 
 // Those held, the oldest first: `count` of them, from 0 to 4. The fourth is the one that waits.
 #[repr(C)]
-#[derive(Drop)]
+#[derive(Clone, Copy)]
 pub struct Queue {
     pub count: u8,
     pub first: Character,

@@ -9,7 +9,7 @@ use receiver_commands::{take_effect, take_enabling};
 use receiver_state::{Receiver, fresh_receiver, oldest_marks, pulse};
 
 // The receiver after a feed, and what a read answers: the byte, 0 where none is read, and whether it is fresh.
-#[derive(Drop)]
+#[derive(Clone, Copy)]
 pub struct Fed {
     pub receiver: Receiver,
     pub byte: u8,

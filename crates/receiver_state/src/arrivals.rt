@@ -11,7 +11,7 @@ use sampler_hunting::Came;
 use sampler_state::{Sampler, drop_assembly};
 
 #[repr(C)]
-#[derive(Drop)]
+#[derive(Clone, Copy)]
 pub struct Receiver {
     pub sampler: Sampler,
     pub queue: Queue,

@@ -7,7 +7,7 @@ use queue::{is_empty, is_full};
 use receiver_state::{Receiver, oldest_marks};
 
 // "SR bits 7-0: break, framing, parity, overrun, TxEMT, TxRDY, FFULL, RxRDY": the receiver's six.
-#[derive(Drop)]
+#[derive(Clone, Copy)]
 pub struct Status {
     // bits 7 to 5
     pub marks: Marks,

@@ -8,7 +8,7 @@ use events::Event;
 // "Events: chip reset; read register n; write register n with a byte; interrupt acknowledge; pins (byte: bits
 // 0-5 IP0-IP5, 6 RxDA, 7 RxDB); tick." The kinds are 0 to 5, in this order.
 #[repr(C)]
-#[derive(Drop)]
+#[derive(Clone, Copy)]
 pub struct EventRecord {
     pub kind: u8,
     // the register of a read or a write
@@ -20,7 +20,7 @@ pub struct EventRecord {
 // "The answer has the number, the data byte (0 where none is read), IRQ (1 when asserted), TxDA, TxDB, the OP0-OP7
 // levels": all of it but the new state. Order 1: "The receive buffer read shall also say fresh or stale".
 #[repr(C)]
-#[derive(Drop)]
+#[derive(Clone, Copy)]
 pub struct Seen {
     pub number: u8,
     pub data: u8,

@@ -1,5 +1,7 @@
 // Replays a script from standard input on a fresh device. What a line says and which line it is are the crate `replay_script`'s,
 // the text of what is printed `replay_text`'s; the answers are the chip's.
+#![tactic(auto)]
+
 use chip_device::{Device, fresh};
 use chip_fast::at_rest;
 use chip_step::{Answer, step};
@@ -9,13 +11,13 @@ use replay_script::{Line, Place, first_place, next_line, next_place, tell};
 use replay_text::{write_error, write_seen};
 
 // The device so far, and where in the script we are.
-#[derive(Drop)]
+#[derive(Clone, Copy)]
 struct Run {
     device: Device,
     place: Place,
 }
 
-#[derive(Drop)]
+#[derive(Clone, Copy)]
 struct Turn {
     run: Run,
     more: bool,

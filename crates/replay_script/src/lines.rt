@@ -8,7 +8,7 @@ use format::Ticks;
 use text::MOST;
 
 // What a line says: an event; so many ticks; nothing, a blank line or a comment; or that it cannot be read.
-#[derive(Drop)]
+#[derive(Clone, Copy)]
 pub enum Line {
     Skipped,
     Wrong,

@@ -4,7 +4,7 @@ ghost use Rattle.replay_script.specs.Place.{first_place, line_after, next_line, 
 
 use crate::reading::{Reading, start, take};
 
-#[derive(Drop)]
+#[derive(Clone, Copy)]
 pub struct Place {
     // the number of this line; the first is 1
     pub line: u64,

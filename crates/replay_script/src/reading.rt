@@ -6,7 +6,7 @@ ghost use Rattle.replay_script.specs.Reading.{words_after, begun_of, added_of, t
 
 use text::number_after;
 
-#[derive(Drop)]
+#[derive(Clone, Copy)]
 pub struct Reading {
     // whether the last byte stands in a word
     pub inside: bool,

@@ -8,7 +8,7 @@ use frame::{frame_bits, frame_length, level_of};
 
 // What a frame request answers: the number of document 01's table, and the pulses written.
 #[repr(C)]
-#[derive(Drop)]
+#[derive(Clone, Copy)]
 pub struct FrameAnswer {
     pub number: u8,
     pub length: Pulses,

@@ -12,14 +12,14 @@ use sampler_state::{
 };
 
 // A character that arrived, if any.
-#[derive(Drop)]
+#[derive(Clone, Copy)]
 pub enum Came {
     NoCharacter,
     Arrival(Character),
 }
 
 // The answer to a pulse.
-#[derive(Drop)]
+#[derive(Clone, Copy)]
 pub struct Sampled {
     pub next: Sampler,
     // a start was confirmed

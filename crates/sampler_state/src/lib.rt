@@ -1,5 +1,7 @@
 // What a sampler of one receiver of the MC68681 holds and what it can be doing; and a character put
 // together from samples. One file a topic; specs/ has the definitions of each under the same name.
+#![tactic(auto)]
+
 mod assembly;
 mod state;
 

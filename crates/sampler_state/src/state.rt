@@ -21,7 +21,7 @@ pub const AFTER_LOW_STOP: u8 = 3;
 pub const IN_BREAK: u8 = 4;
 
 #[repr(C)]
-#[derive(Drop)]
+#[derive(Clone, Copy)]
 pub struct Sampler {
     pub phase: u8,
     // hunting: the last sample was high

@@ -1,5 +1,7 @@
 // Text that is put into lent space, byte by byte: what does not fit is not put, and counts all the same. So text that
 // goes into an empty space is measured. And numbers that are read.
+#![tactic(auto)]
+
 mod numbers;
 mod putting;
 

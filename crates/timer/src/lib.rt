@@ -3,6 +3,8 @@
 // It stands in a crate of its own, above the dividers that it uses: of a channel's clocks it knows no more
 // than the pulses of their 1X transmitter clocks. One file a topic; specs/ has the definitions of each under the same
 // name.
+#![tactic(auto)]
+
 mod passing;
 mod timer;
 

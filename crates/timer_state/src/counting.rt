@@ -24,7 +24,7 @@ const TIMER_ON_TICKS: u8 = 6;
 const TIMER_ON_TICKS_16: u8 = 7;
 
 #[repr(C)]
-#[derive(Drop)]
+#[derive(Clone, Copy)]
 pub struct Timer {
     pub preload: u16,
     pub count: u16,
@@ -41,7 +41,7 @@ pub struct Timer {
 }
 
 // The counter/timer after what may have pulsed it.
-#[derive(Drop)]
+#[derive(Clone, Copy)]
 pub struct Counted {
     pub timer: Timer,
     // the timer's toggle to high

@@ -1,5 +1,7 @@
 // The counter/timer of the MC68681 as it counts: what it holds, its modes, and what a pulse of its clock
 // does to it. specs/ has its definitions under the same name.
+#![tactic(auto)]
+
 mod counting;
 
 pub use counting::{

@@ -1,6 +1,8 @@
 // The transmitter of one channel of the MC68681: what an input does to it, and what it shows.
 //
 // One file a topic; specs/ has the definitions of each under the same name.
+#![tactic(auto)]
+
 mod commands;
 mod status;
 mod transmitter;

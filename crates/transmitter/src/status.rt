@@ -4,7 +4,7 @@ ghost use Rattle.transmitter.specs.Status.{shifter_empty, status_of};
 
 use transmitter_state::{SENDING, Transmitter};
 
-#[derive(Drop)]
+#[derive(Clone, Copy)]
 pub struct TransmitterStatus {
     // TxRDY
     pub ready: bool,

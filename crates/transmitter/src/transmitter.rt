@@ -6,7 +6,7 @@ use crate::commands::{ask_break, disable, drop_sending, enable, end_break, reset
 use transmitter_state::{Standing, Transmitter, fresh_transmitter, pulse};
 
 // What reaches a transmitter. A command is two of these: "bits 6-4 first, then 3-2".
-#[derive(Drop)]
+#[derive(Clone, Copy)]
 pub enum Input {
     Nothing,
     // a pulse of its clock

@@ -8,7 +8,7 @@ use crate::state::{AFTER_BREAK, IDLE, IN_BREAK, SENDING, Shifter, Transmitter};
 use format::{Bits, Pulses};
 
 // What a pulse finds: the mode registers, 16X or 1X, and the level of CTS, as they stand.
-#[derive(Drop)]
+#[derive(Clone, Copy)]
 pub struct Standing {
     pub mr1: u8,
     pub mr2: u8,

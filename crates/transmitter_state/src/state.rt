@@ -7,7 +7,7 @@ use frame::FrameBits;
 
 // What the start of a character takes, "Format and 16X or 1X", and how much of its frame has been sent.
 #[repr(C)]
-#[derive(Drop)]
+#[derive(Clone, Copy)]
 pub struct Shifter {
     // the bits before the stop, and high past them
     pub frame: FrameBits,
@@ -32,7 +32,7 @@ pub const IN_BREAK: u8 = 2;
 pub const AFTER_BREAK: u8 = 3;
 
 #[repr(C)]
-#[derive(Drop)]
+#[derive(Clone, Copy)]
 pub struct Transmitter {
     pub enabled: bool,
     // the holding place is full

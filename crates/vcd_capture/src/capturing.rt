@@ -9,7 +9,7 @@ use format::{format_of, mr1_not_modelled};
 use vcd_read::{Times, scan};
 
 // "for a given MR1, ACR bit 7 and CSR code 0 to 12"
-#[derive(Drop)]
+#[derive(Clone, Copy)]
 pub struct Asked {
     pub mr1: u8,
     pub acr7: bool,
@@ -17,7 +17,7 @@ pub struct Asked {
 }
 
 // The number, and how much of each log is filled.
-#[derive(Drop)]
+#[derive(Clone, Copy)]
 pub struct Captured {
     pub number: u8,
     pub length_a: usize,

@@ -44,7 +44,7 @@ fn pulses_left(before: u64, done: u64) -> u64
     0
 }
 
-#[derive(Drop)]
+#[derive(Clone, Copy)]
 pub struct Heard {
     pub sampler: Sampler,
     pub at: usize,
@@ -90,7 +90,7 @@ pub fn hear_pulses(
 }
 
 // A receiver, the level of its wire, and the pulses that have come.
-#[derive(Drop)]
+#[derive(Clone, Copy)]
 pub struct Ear {
     pub sampler: Sampler,
     pub level: bool,
@@ -98,7 +98,7 @@ pub struct Ear {
 }
 
 // After a line: the receiver, and the place in its log.
-#[derive(Drop)]
+#[derive(Clone, Copy)]
 pub struct Step {
     pub ear: Ear,
     pub at: usize,

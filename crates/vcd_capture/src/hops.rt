@@ -13,7 +13,7 @@ use sampler_state::{
 };
 
 // Some pulses: the receiver after them, and the character that they brought, if any.
-#[derive(Drop)]
+#[derive(Clone, Copy)]
 pub struct Hopped {
     pub sampler: Sampler,
     pub came: Came,

@@ -8,7 +8,7 @@ use chip_device::{Device, is_sound};
 
 // The number, and "the length (0 if refused)".
 #[repr(C)]
-#[derive(Drop)]
+#[derive(Clone, Copy)]
 pub struct DumpAnswer {
     pub number: u8,
     pub length: usize,

@@ -15,7 +15,7 @@ use vcd_text::{put_changes, put_header};
 
 // Where the writing stands: at the time of which tick, the values written before it and those it has now, a bit for
 // each wire, and the place in the space.
-#[derive(Drop)]
+#[derive(Clone, Copy)]
 pub struct Wave {
     pub tick: u32,
     pub before: u16,

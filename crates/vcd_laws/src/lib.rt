@@ -1,1 +1,2 @@
 // What a dump shows: theorems only.
+#![tactic(auto)]

@@ -27,7 +27,7 @@ const CODE: u8 = 5;
 // the text is outside the subset
 const OUTSIDE: u8 = 6;
 
-#[derive(Drop)]
+#[derive(Clone, Copy)]
 pub struct Reading {
     pub place: u8,
     // a time has come
@@ -40,7 +40,7 @@ pub struct Reading {
 }
 
 // The line that a byte ends.
-#[derive(Drop)]
+#[derive(Clone, Copy)]
 pub enum Said {
     NoLine,
     TimeLine(u32),

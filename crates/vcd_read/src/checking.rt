@@ -5,14 +5,14 @@ ghost use Rattle.vcd_read.specs.Scan.{times_said, in_table, checked_by, checked_
 use vcd_lines::{Reading, Said, say, start, take};
 
 // Whether there is a time, the last one, and whether one was "not later than the one before".
-#[derive(Drop)]
+#[derive(Clone, Copy)]
 pub struct Times {
     pub some: bool,
     pub last: u32,
     pub late: bool,
 }
 
-#[derive(Drop)]
+#[derive(Clone, Copy)]
 pub struct Checked {
     pub reading: Reading,
     pub times: Times,

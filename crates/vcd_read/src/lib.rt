@@ -2,6 +2,8 @@
 // its times are. What its lines say is `vcd_lines`'s.
 //
 // One file a topic; specs/ has the definitions of each under the same name.
+#![tactic(auto)]
+
 mod checking;
 mod named;
 mod scanning;

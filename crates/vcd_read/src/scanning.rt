@@ -8,7 +8,7 @@ use crate::wires::{starts_at, wires_at};
 use vcd_lines::LINE_START;
 
 // A header in the subset: the codes of the two wires that are named, and where the lines after it begin.
-#[derive(Drop)]
+#[derive(Clone, Copy)]
 pub struct Header {
     pub inside: bool,
     pub code_a: u8,
@@ -17,7 +17,7 @@ pub struct Header {
 }
 
 // What is known of a text, or why it is refused.
-#[derive(Drop)]
+#[derive(Clone, Copy)]
 pub struct Scanned {
     pub number: u8,
     pub code_a: u8,

@@ -45,7 +45,7 @@ fn name_length(text: &[u8], at: usize) -> usize
 }
 
 // A wire's line, if one stands at a place: its code, how long its name is, which begins 14 bytes on, and where the line ends.
-#[derive(Drop)]
+#[derive(Clone, Copy)]
 pub struct WireAt {
     pub here: bool,
     pub code: u8,
@@ -101,7 +101,7 @@ pub fn wire_at(text: &[u8], at: usize) -> WireAt
 }
 
 // How many wires stand at a place, 17 standing for that and more, and where their lines end.
-#[derive(Drop)]
+#[derive(Clone, Copy)]
 pub struct Wires {
     pub count: usize,
     pub end: usize,

@@ -1,1 +1,2 @@
 // Which texts order 7 reads: theorems only.
+#![tactic(auto)]

@@ -1,4 +1,6 @@
 // The text of a value change dump: the time of a tick, the header, and what is written at a time.
+#![tactic(auto)]
+
 mod lines;
 mod time;
 

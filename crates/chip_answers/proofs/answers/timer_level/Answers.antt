@@ -1,0 +1,22 @@
+-- `timer_level` meets its contract: each way through the tests is the definition's, with the callee's answer. Assumes nothing.
+use Prim.{tt}
+use Rattle.format.proofs.Laws.{steps}
+use Rattle.chip_answers.specs.Answers.{timer_level}
+use Rattle.chip_answers.proofs.answers.timer_level.Goals as goal
+
+pub mode_of-requires : goal.mode_of-requires
+mode_of-requires c = tt
+
+pub is_timer-requires : goal.is_timer-requires
+is_timer-requires c = tt
+
+pub returns-then-is_timer : goal.returns-then-is_timer
+unfolding timer_level
+returns-then-is_timer c = simp (← c.is_timer.ensures, ← c.Mode-of.ensures) (search steps)
+
+pub has_bit-requires : goal.has_bit-requires
+has_bit-requires c = tt
+
+pub returns : goal.returns
+unfolding timer_level
+returns c = simp (c.has_bit.ensures, ← c.is_timer.ensures, ← c.Mode-of.ensures) (search steps)

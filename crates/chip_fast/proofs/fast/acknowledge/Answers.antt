@@ -1,0 +1,31 @@
+-- `acknowledge` meets its contract: each way by the law of its row. Assumes nothing.
+use Prim.{tt}
+use mathlib.Core.Path.{sym, ◌∙◌, ap}
+use Rattle.chip_answers.specs.declared.answers.Lines.{Lines}
+use Rattle.chip_fast.proofs.Laws.Ticked.{unsound_refused, ack_asserted, ack_unasserted}
+use Rattle.chip_fast.proofs.fast.acknowledge.Goals as goal
+
+pub refuse_unsound-answer-requires : goal.refuse_unsound-answer-requires
+refuse_unsound-answer-requires c = tt
+
+pub is_sound-requires : goal.is_sound-requires
+is_sound-requires c = tt
+
+pub device_lines-lines-requires : goal.device_lines-lines-requires
+device_lines-lines-requires c = tt
+
+pub returns-then-lines : goal.returns-then-lines
+returns-then-lines c =
+    let sound = sym c.is_sound.ensures ∙ c.if-is_sound.true in
+    let irq = ap (λ (l : Lines). l.irq) (sym c.device_lines-lines.ensures) ∙ c.if-lines.true in
+    rw (c.device_lines-lines.ensures, c.refuse_unsound-answer.ensures) (ack_asserted _ sound irq)
+
+pub returns-else-lines : goal.returns-else-lines
+returns-else-lines c =
+    let sound = sym c.is_sound.ensures ∙ c.if-is_sound.true in
+    let irq = ap (λ (l : Lines). l.irq) (sym c.device_lines-lines.ensures) ∙ c.if-lines.false in
+    rw (c.device_lines-lines.ensures, c.refuse_unsound-answer.ensures) (ack_unasserted _ sound irq)
+
+pub returns-else-is_sound : goal.returns-else-is_sound
+returns-else-is_sound c =
+    c.refuse_unsound-answer.ensures ∙ unsound_refused _ _ (sym c.is_sound.ensures ∙ c.if-is_sound.false)

@@ -1,0 +1,16 @@
+-- `answer_other` meets its contract: each way is what its callee answers. Assumes nothing.
+use Prim.{tt}
+use borrow.Author.Rules.{rules}
+use Rattle.chip_fast.proofs.fast.answer_other.Goals as goal
+
+pub acknowledge-requires : goal.acknowledge-requires
+acknowledge-requires c = tt
+
+pub step-requires : goal.step-requires
+step-requires c = tt
+
+pub returns-in-Acknowledge : goal.returns-in-Acknowledge
+returns-in-Acknowledge c = simp (c.acknowledge.ensures, ← c.enum_told.given.1)
+
+pub returns-in_default : goal.returns-in_default
+returns-in_default c = c.step.ensures

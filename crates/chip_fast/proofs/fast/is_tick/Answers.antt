@@ -1,0 +1,28 @@
+-- `is_tick` meets its contract: one arm an event, each the definition's. Assumes nothing.
+use borrow.Author.Rules.{rules}
+use Rattle.chip_fast.specs.Fast.{is_tick}
+use Rattle.chip_fast.proofs.fast.is_tick.Goals as goal
+
+pub returns-in-ChipReset : goal.returns-in-ChipReset
+unfolding is_tick
+returns-in-ChipReset c = simp c.enum_told.given.1
+
+pub returns-in-Read : goal.returns-in-Read
+unfolding is_tick
+returns-in-Read c = simp c.event.given.1
+
+pub returns-in-Write : goal.returns-in-Write
+unfolding is_tick
+returns-in-Write c = simp c.event2.given.1
+
+pub returns-in-Acknowledge : goal.returns-in-Acknowledge
+unfolding is_tick
+returns-in-Acknowledge c = simp c.enum-told2.given.1
+
+pub returns-in-Pins : goal.returns-in-Pins
+unfolding is_tick
+returns-in-Pins c = simp c.event3.given.1
+
+pub returns-in-Tick : goal.returns-in-Tick
+unfolding is_tick
+returns-in-Tick c = simp c.enum-told3.given.1

@@ -1,0 +1,29 @@
+-- `is_register_above_15` meets its contract: one arm a register, each the definition's. Assumes nothing.
+use borrow.Author.Rules.{rules}
+use Rattle.format.specs.Pick.{pick}
+use Rattle.chip_refusals.specs.Rows.{register_above15}
+use Rattle.chip_refusals.proofs.rows.is_register_above_15.Goals as goal
+
+pub returns-in-ChipReset : goal.returns-in-ChipReset
+unfolding register_above15 pick
+returns-in-ChipReset c = simp c.enum_told.given.1
+
+pub returns-in-Read : goal.returns-in-Read
+unfolding register_above15 pick
+returns-in-Read c = simp c.event.given.1
+
+pub returns-in-Write : goal.returns-in-Write
+unfolding register_above15 pick
+returns-in-Write c = simp c.event2.given.1
+
+pub returns-in-Acknowledge : goal.returns-in-Acknowledge
+unfolding register_above15 pick
+returns-in-Acknowledge c = simp c.enum-told2.given.1
+
+pub returns-in-Pins : goal.returns-in-Pins
+unfolding register_above15 pick
+returns-in-Pins c = simp c.event3.given.1
+
+pub returns-in-Tick : goal.returns-in-Tick
+unfolding register_above15 pick
+returns-in-Tick c = simp c.enum-told3.given.1

@@ -1,0 +1,9 @@
+-- `accept` meets its contract: it is what its callees answer. Assumes nothing.
+use Prim.{tt}
+use Rattle.chip_step.proofs.chip.accept.Goals as goal
+
+pub device_lines-requires : goal.device_lines-requires
+device_lines-requires c = tt
+
+pub returns : goal.returns
+returns c = simp c.device_lines.ensures

@@ -1,0 +1,13 @@
+-- `period_of` meets its contract: it is the table that the set chooses. Assumes nothing.
+use borrow.Author.Rules.{rules}
+use Rattle.format.proofs.Laws.{steps}
+use Rattle.dividers.specs.Rates.{period_of}
+use Rattle.dividers.proofs.rates.period_of.Goals as goal
+
+pub returns-then-second : goal.returns-then-second
+unfolding period_of
+returns-then-second c = search (steps, c.second_set.ensures)
+
+pub returns : goal.returns
+unfolding period_of
+returns c = search (steps, c.first_set.ensures)

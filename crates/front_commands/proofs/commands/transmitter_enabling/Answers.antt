@@ -1,0 +1,16 @@
+-- `transmitter_enabling` meets its contract: its tests are the definition's. Assumes nothing.
+use Rattle.format.proofs.Laws.{steps}
+use Rattle.front_commands.specs.Commands.{transmitter_enabling}
+use Rattle.front_commands.proofs.commands.transmitter_enabling.Goals as goal
+
+pub returns-then-bits-eq1 : goal.returns-then-bits-eq1
+unfolding transmitter_enabling
+returns-then-bits-eq1 c = search steps
+
+pub returns-then-bits-eq2 : goal.returns-then-bits-eq2
+unfolding transmitter_enabling
+returns-then-bits-eq2 c = search steps
+
+pub returns : goal.returns
+unfolding transmitter_enabling
+returns c = search steps

@@ -1,0 +1,48 @@
+-- `step_front` meets its contract: one arm a register, each the definition's. Assumes nothing.
+use Prim.{tt}
+use borrow.Author.Rules.{rules}
+use Rattle.format.specs.Pick.{pick}
+use Rattle.front_events.specs.FrontEvents.{front_stepped}
+use Rattle.front_events.proofs.front_events.step_front.Goals as goal
+
+pub reset_front-requires : goal.reset_front-requires
+reset_front-requires c = tt
+
+pub read_register-requires : goal.read_register-requires
+read_register-requires c = tt
+
+pub write_register-requires : goal.write_register-requires
+write_register-requires c = tt
+
+pub acknowledge-requires : goal.acknowledge-requires
+acknowledge-requires c = tt
+
+pub move_levels-requires : goal.move_levels-requires
+move_levels-requires c = tt
+
+pub tick_front-requires : goal.tick_front-requires
+tick_front-requires c = tt
+
+pub returns-in-ChipReset : goal.returns-in-ChipReset
+unfolding front_stepped pick
+returns-in-ChipReset c = simp (c.reset_front.ensures, c.enum_told.given.1)
+
+pub returns-in-Read : goal.returns-in-Read
+unfolding front_stepped pick
+returns-in-Read c = simp (c.read_register.ensures, c.event.given.1)
+
+pub returns-in-Write : goal.returns-in-Write
+unfolding front_stepped pick
+returns-in-Write c = simp (c.write_register.ensures, c.event2.given.1)
+
+pub returns-in-Acknowledge : goal.returns-in-Acknowledge
+unfolding front_stepped pick
+returns-in-Acknowledge c = simp (c.acknowledge.ensures, c.enum-told2.given.1)
+
+pub returns-in-Pins : goal.returns-in-Pins
+unfolding front_stepped pick
+returns-in-Pins c = simp (c.move_levels.ensures, c.event3.given.1)
+
+pub returns-in-Tick : goal.returns-in-Tick
+unfolding front_stepped pick
+returns-in-Tick c = simp (c.tick_front.ensures, c.enum-told3.given.1)

@@ -1,0 +1,6 @@
+-- `falls` meets its contract: it is what its callees answer. Assumes nothing.
+use borrow.Author.Rules.{rules}
+use Rattle.inputs.proofs.inputs.falls.Goals as goal
+
+pub returns : goal.returns
+returns c = simp (c.has_bit-2.ensures, c.has_bit.ensures)

@@ -1,0 +1,39 @@
+-- `list_byte` meets its contract: after each turn the line holds one level more, and the last answer is a bit further. Assumes nothing.
+use Prim.{tt}
+use Prim.Native.Nat.{◌≤◌, ◌-◌}
+use mathlib.Core.Path.{◌≡◌, refl}
+use native.Mathlib.Omega.{arith}
+use borrow.Author.Rules.{rules}
+use lib.ListN.{length, length-set}
+use Rattle.lister_line.proofs.Laws.Turns.{Sofar, start, turn, ends}
+use Rattle.lister_line.proofs.line.list_byte.Goals as goal
+
+pub step-last-requires : goal.step-last-requires
+step-last-requires c = tt
+
+pub loop-at-init : goal.loop-at-init
+loop-at-init c = (omega arith, refl, start _)
+
+pub tick_times-middle-requires : goal.tick_times-middle-requires
+tick_times-middle-requires c = tt
+
+pub level_text-requires : goal.level_text-requires
+level_text-requires c = tt
+
+pub tick_times-last-requires : goal.tick_times-last-requires
+tick_times-last-requires c = tt
+
+pub loop-at-preserved : goal.loop-at-preserved
+loop-at-preserved c =
+    let at = c.loop-at in (
+      omega arith,
+      simp length-set (omega arith),
+      rw (c.tick_times-last.ensures, c.level_text.ensures, c.tick_times-middle.ensures)
+          (turn _ at.last at.line at.at at.invariant.2),
+    )
+
+pub returns : goal.returns
+returns c =
+    let at = c.loop-at in
+    let ten : at.at ≡ 10 = omega arith in
+    (ends _ _ _ at.last at.line at.at ten c.step-last.ensures at.invariant.2, omega arith)

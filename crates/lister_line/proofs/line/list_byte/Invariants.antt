@@ -1,0 +1,15 @@
+-- `list_byte` meets its contract: after each turn the line holds one level more, and the last answer is a bit further. Assumes nothing.
+use Prim.{tt}
+use Prim.Native.Nat.{◌≤◌, ◌-◌}
+use mathlib.Core.Path.{◌≡◌, refl}
+use native.Mathlib.Omega.{arith}
+use borrow.Author.Rules.{rules}
+use lib.ListN.{length, length-set}
+use Rattle.lister_line.proofs.Laws.Turns.{Sofar, start, turn, ends}
+use Rattle.lister_line.proofs.line.list_byte.Given as goal
+
+abbrev pub invariant-loop-at : goal.invariant-loop-at
+invariant-loop-at l = (l.at ≤ 10) × (length l.line ≡ 11) × (Sofar l.initial.last l.last l.line l.at)
+
+abbrev pub decreases-loop-at : goal.decreases-loop-at
+decreases-loop-at l = 10 - l.at

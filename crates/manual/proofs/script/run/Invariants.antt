@@ -1,0 +1,9 @@
+-- `run` is safe and ends: the bytes of the script still to read grow fewer. Assumes nothing.
+use Rattle.std.proofs.Common.{◌-◌, ◌≤◌, length, rules}
+use Rattle.manual.proofs.script.run.Given as goal
+
+abbrev pub invariant-loop-i : goal.invariant-loop-i
+invariant-loop-i l = l.i ≤ length l.script
+
+abbrev pub decreases-loop-i : goal.decreases-loop-i
+decreases-loop-i l = length l.script - l.i

@@ -1,0 +1,9 @@
+-- `take_all` is safe and ends: the turns that are left grow fewer. Assumes nothing.
+use borrow.Author.Rules.{rules}
+use Rattle.replay.proofs.take_all.Given as goal
+
+abbrev pub invariant-loop-turns : goal.invariant-loop-turns
+invariant-loop-turns l = Unit {0}
+
+abbrev pub decreases-loop-turns : goal.decreases-loop-turns
+decreases-loop-turns l = l.turns

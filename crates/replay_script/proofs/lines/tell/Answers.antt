@@ -1,0 +1,25 @@
+-- `tell` meets its contract: each way through the tests is the definition's, and what each calls is its own definition's. Assumes nothing.
+use borrow.Author.Rules.{rules}
+use Rattle.format.proofs.Laws.{steps}
+use Rattle.replay_script.specs.Lines.{told_of}
+use Rattle.replay_script.proofs.lines.tell.Goals as goal
+
+pub returns-then-reading : goal.returns-then-reading
+unfolding told_of
+returns-then-reading c = search steps
+
+pub returns-then-reading-eq1 : goal.returns-then-reading-eq1
+unfolding told_of
+returns-then-reading-eq1 c = search steps
+
+pub returns-then-reading-eq2 : goal.returns-then-reading-eq2
+unfolding told_of
+returns-then-reading-eq2 c = search steps
+
+pub returns-then-reading-eq3 : goal.returns-then-reading-eq3
+unfolding told_of
+returns-then-reading-eq3 c = search steps
+
+pub returns : goal.returns
+unfolding told_of
+returns c = search steps

@@ -1,0 +1,6 @@
+-- `next_line` meets its contract: the reading is `start`'s. Assumes nothing.
+use borrow.Author.Rules.{rules}
+use Rattle.replay_script.proofs.place.next_line.Goals as goal
+
+pub returns : goal.returns
+returns c = simp (c.start-reading.ensures, c.line_after-line.ensures)

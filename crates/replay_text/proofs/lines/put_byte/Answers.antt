@@ -1,0 +1,22 @@
+-- `put_byte` meets its contract: first the number is put, and then the separator. Assumes nothing.
+use mathlib.Core.Path.{refl}
+use native.Mathlib.Omega.{arith}
+use Rattle.text.proofs.Laws.Decimal.{decimal_within}
+use Rattle.text.proofs.Laws.Puts.{puts_one, puts_then}
+use borrow.Author.Rules.{rules}
+use Rattle.replay_text.proofs.lines.put_byte.Goals as goal
+
+pub overflow_add-result : goal.overflow_add-result
+overflow_add-result c =
+    let number = c in
+    let start = number in
+    omega (arith, decimal_within 3 start.args.byte, number.put_decimal-next.ensures.ends, start.requires)
+
+pub returns : goal.returns
+returns c =
+    let put = c in
+    let number = put in
+    let start = number in (
+      omega (arith, decimal_within 3 start.args.byte, number.put_decimal-next.ensures.ends),
+      puts_then number.put_decimal-next.ensures (puts_one _ _ _ _ _ refl put.put.ensures),
+    )

@@ -1,0 +1,19 @@
+-- `put_flag` meets its contract: first the digit is put, and then the separator. Assumes nothing.
+use Prim.Native.Nat.{ℕ}
+use mathlib.Core.Path.{refl, ap}
+use mathlib.Core.List.{[], ◌∷◌}
+use native.Mathlib.Omega.{arith}
+use Rattle.text.proofs.Laws.Puts.{puts_one, puts_then, puts_as}
+use borrow.Author.Rules.{rules}
+use Rattle.replay_text.proofs.lines.put_flag.Goals as goal
+
+pub returns : goal.returns
+returns c =
+    let last = c in
+    let first = last in
+    let digit = first in
+    let a = digit.args in (
+      refl,
+      puts_as (ap (λ (d : ℕ). d ∷ a.separator ∷ []) digit.level_digit.ensures)
+          (puts_then (puts_one _ _ _ _ _ refl first.put.ensures) (puts_one _ _ _ _ _ (omega arith) last.put-2.ensures)),
+    )

@@ -1,0 +1,6 @@
+-- `reset` meets its contract: it is what its callees answer. Assumes nothing.
+use borrow.Author.Rules.{rules}
+use Rattle.transmitter.proofs.commands.reset.Goals as goal
+
+pub returns : goal.returns
+returns c = simp (c.drop_all.ensures, c.end_break.ensures)

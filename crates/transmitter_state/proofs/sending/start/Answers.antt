@@ -1,0 +1,6 @@
+-- `start` meets its contract: it is what its callees answer. Assumes nothing.
+use borrow.Author.Rules.{rules}
+use Rattle.transmitter_state.proofs.sending.start.Goals as goal
+
+pub returns : goal.returns
+returns c = simp c.take_frame-shifter.ensures

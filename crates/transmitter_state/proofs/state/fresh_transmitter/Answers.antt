@@ -1,0 +1,6 @@
+-- `fresh_transmitter` meets its contract: it is what its callees answer. Assumes nothing.
+use borrow.Author.Rules.{rules}
+use Rattle.transmitter_state.proofs.state.fresh_transmitter.Goals as goal
+
+pub returns : goal.returns
+returns c = simp c.empty_shifter.ensures

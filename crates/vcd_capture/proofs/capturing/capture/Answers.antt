@@ -1,0 +1,33 @@
+-- `capture` meets its contract: the part is that of the log which the channel names. Assumes nothing.
+use mathlib.Core.Path.{◌∙◌}
+use Rattle.vcd_capture.proofs.Laws.Capture.{part-a, part-b}
+use borrow.Author.Rules.{rules}
+use Rattle.vcd_capture.proofs.capturing.capture.Goals as goal
+
+pub slice_bounds-result-end : goal.slice_bounds-result-end
+slice_bounds-result-end c =
+    let read = c in
+    let x = read.args in
+    let met = read.read_capture-captured.ensures in
+    (part-b _ _ _ _ _ _ _ _ _ met).1
+
+pub returns-then-channel_b : goal.returns-then-channel_b
+returns-then-channel_b c =
+    let read = c in
+    let x = read.args in
+    let met = read.read_capture-captured.ensures in
+    (part-b _ _ _ _ _ _ _ _ _ met).0 ∙ rw c.if-channel_b.true
+
+pub slice_bounds-result-end-2 : goal.slice_bounds-result-end-2
+slice_bounds-result-end-2 c =
+    let read = c in
+    let x = read.args in
+    let met = read.read_capture-captured.ensures in
+    (part-a _ _ _ _ _ _ _ _ _ met).1
+
+pub returns : goal.returns
+returns c =
+    let read = c in
+    let x = read.args in
+    let met = read.read_capture-captured.ensures in
+    (part-a _ _ _ _ _ _ _ _ _ met).0 ∙ rw c.if-channel_b.false

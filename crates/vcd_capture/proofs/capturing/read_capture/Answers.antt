@@ -1,0 +1,98 @@
+-- `read_capture` meets its contract: each test decides its number, and what is heard into no log has the lengths that are asked. Assumes nothing.
+use mathlib.Core.Path.{◌≡◌, refl, ◌∙◌}
+use mathlib.Core.Bool.{false, ◌||◌}
+use lib.Dec.{ltb}
+use lib.ListN.{length}
+use borrow.Author.Tests.{ne_eqb}
+use Rattle.format.specs.Format.{mr1_not_modelled}
+use Rattle.text.proofs.Laws.Puts.{puts_as}
+use Rattle.vcd_read.specs.Scan.{scan_of}
+use Rattle.vcd_capture.specs.Capture.{log_a, log_b}
+use Rattle.vcd_capture.proofs.Laws.Capture.{from_start, heard_is, five, by-text, eight, none, refused, accepted}
+use borrow.Author.Rules.{rules}
+use Rattle.format.proofs.mr1_not_modelled.Reads as mr1-not-modelled-reads
+use Rattle.vcd_capture.proofs.capturing.read_capture.Goals as goal
+
+pub returns-then-mr1_not_modelled-asked : goal.returns-then-mr1_not_modelled-asked
+returns-then-mr1_not_modelled-asked c =
+    let x = c.args in
+    refused x.asked x.text.now x.name-a.now x.name-b.now x.log-a.now x.log-b.now 5 c.refuse.result refl
+    (five x.asked x.text.now x.name-a.now x.name-b.now x.log-a.now x.log-b.now (rw (← c.mr1_not_modelled.ensures) c.if-mr1_not_modelled-asked.true))
+    c.refuse.ensures
+
+pub returns-then-found-ne0 : goal.returns-then-found-ne0
+returns-then-found-ne0 c =
+    let x = c.args in
+    let found = c.scan-found.ensures.0 in
+    let m : (mr1_not_modelled x.asked.mr1 || ltb 12 x.asked.code) ≡ false = rw (← c.mr1_not_modelled.ensures) c.if-mr1_not_modelled-asked.false in
+    let no : (scan_of x.text.now x.name-a.now x.name-b.now).number ≡ 0 → ⊥ = rw (← found) c.if-found-ne0.true in
+    refused x.asked x.text.now x.name-a.now x.name-b.now x.log-a.now x.log-b.now _ c.refuse-then-found-ne0.result (ne_eqb _ 0 no)
+    (by-text x.asked x.text.now x.name-a.now x.name-b.now x.log-a.now x.log-b.now m no)
+    (c.refuse-then-found-ne0.ensures ∙ rw found)
+
+pub hear_wire-length_a-requires : goal.hear_wire-length_a-requires
+hear_wire-length_a-requires c = (c.scan-found.ensures.1, c.end_of-end.ensures.1)
+
+pub hear_wire-length_b-requires : goal.hear_wire-length_b-requires
+hear_wire-length_b-requires c = (c.scan-found.ensures.1, c.end_of-end.ensures.1)
+
+pub returns-then-log_a-length_a : goal.returns-then-log_a-length_a
+returns-then-log_a-length_a c =
+    let second = c in
+    let one = second in
+    let last = one in
+    let test = last in
+    let read = test in
+    let mode = read in
+    let start = mode in
+    let x = start.args in
+    let text = x.text.now in
+    let a = x.name-a.now in
+    let b = x.name-b.now in
+    let la = x.log-a.now in
+    let lb = x.log-b.now in
+    let found = read.scan-found.ensures.0 in
+    let m : (mr1_not_modelled x.asked.mr1 || ltb 12 x.asked.code) ≡ false = rw (← mode.mr1_not_modelled.ensures) mode.if-mr1_not_modelled-asked.false in
+    let inside : (scan_of text a b).number ≡ 0 = rw (← found) test.if-found-ne0.false in
+    let logs = heard_is x.asked text a b _ _ _ _ last.period_of-period.ensures last.setting_of-setting.ensures last.end_of-end.ensures.0 found in
+    let na : one.hear_wire-length_a.result ≡ length (log_a x.asked text a b) =
+    from_start (rw logs.0 at one.hear_wire-length_a.ensures.ends) in
+    let nb : second.hear_wire-length_b.result ≡ length (log_b x.asked text a b) =
+    from_start (rw logs.1 at second.hear_wire-length_b.ensures.ends) in
+    refused x.asked text a b la lb 8 c.refuse-then-log_a-length_a.result refl (eight x.asked text a b la lb m inside (rw (← na, ← nb) c.if-log_a-length_a.true)) c.refuse-then-log_a-length_a.ensures
+
+pub hear_wire-requires : goal.hear_wire-requires
+hear_wire-requires c = (c.scan-found.ensures.1, c.end_of-end.ensures.1)
+
+pub hear_wire-requires-2 : goal.hear_wire-requires-2
+hear_wire-requires-2 c = (c.scan-found.ensures.1, c.end_of-end.ensures.1)
+
+pub returns : goal.returns
+returns c =
+    let wrote-b = c in
+    let wrote-a = wrote-b in
+    let room = wrote-a in
+    let second = room in
+    let one = second in
+    let last = one in
+    let test = last in
+    let read = test in
+    let mode = read in
+    let start = mode in
+    let x = start.args in
+    let text = x.text.now in
+    let a = x.name-a.now in
+    let b = x.name-b.now in
+    let la = x.log-a.now in
+    let lb = x.log-b.now in
+    let found = read.scan-found.ensures.0 in
+    let m : (mr1_not_modelled x.asked.mr1 || ltb 12 x.asked.code) ≡ false = rw (← mode.mr1_not_modelled.ensures) mode.if-mr1_not_modelled-asked.false in
+    let inside : (scan_of text a b).number ≡ 0 = rw (← found) test.if-found-ne0.false in
+    let logs = heard_is x.asked text a b _ _ _ _ last.period_of-period.ensures last.setting_of-setting.ensures last.end_of-end.ensures.0 found in
+    let na : one.hear_wire-length_a.result ≡ length (log_a x.asked text a b) =
+    from_start (rw logs.0 at one.hear_wire-length_a.ensures.ends) in
+    let nb : second.hear_wire-length_b.result ≡ length (log_b x.asked text a b) =
+    from_start (rw logs.1 at second.hear_wire-length_b.ensures.ends) in
+    let fits : (ltb (length la) (length (log_a x.asked text a b)) || ltb (length lb) (length (log_b x.asked text a b))) ≡ false = rw (← na, ← nb) room.if-log_a-length_a.false in
+    accepted x.asked text a b la lb _ _ _ _ na nb (none x.asked text a b la lb m inside fits) fits _ _
+    (puts_as logs.0 wrote-a.hear_wire.ensures) (puts_as logs.1 wrote-b.hear_wire-2.ensures)

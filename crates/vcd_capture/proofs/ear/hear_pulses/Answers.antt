@@ -1,0 +1,53 @@
+-- `hear_pulses` meets its contract. The invariant of its loop: the pulses that are left lead to the end that is asked. Assumes nothing.
+use Prim.Native.Nat.{◌+◌, ◌-◌, ◌*◌, ◌≤◌}
+use mathlib.Core.Path.{◌≡◌, refl, sym, ◌∙◌, ap}
+use native.Mathlib.Omega.{arith}
+use lib.ListN.{length}
+use Rattle.sampler.specs.Lines.{after_lines, list_of, arrivals}
+use Rattle.text.proofs.Laws.Puts.{puts_length, Left, left_all, left_as, left_then, left_none}
+use Rattle.vcd_capture.specs.Logs.{log_bytes}
+use Rattle.vcd_capture.specs.Ear.{pulses_at}
+use Rattle.vcd_capture.proofs.Laws.Hops.{hop-turn}
+use Rattle.vcd_capture.proofs.Laws.Hearing.{log_append, log_length, came_within, no_after, no_arrivals}
+use borrow.Author.Rules.{rules}
+use Rattle.vcd_capture.proofs.ear.hear_pulses.Goals as goal
+
+pub loop-left-init : goal.loop-left-init
+loop-left-init c = (omega arith, omega arith, refl, refl, left_all _ _ _)
+
+pub take_came-next-requires : goal.take_came-next-requires
+take_came-next-requires c = omega (arith, c.requires)
+
+pub loop-left-preserved : goal.loop-left-preserved
+loop-left-preserved c =
+    let take = c in
+    let one = take in
+    let at = one in
+    let a = at.args in
+    let h = one.hop-hopped.ensures in
+    let r = one.hop-hopped.result in
+    let turn = hop-turn a.level a.setting at.loop-left.now-sampler at.loop-left.left r h in
+    let later = arrivals r.sampler (pulses_at (at.loop-left.left - r.pulses) a.level a.setting) in
+    let p = take.take_came-next.ensures in
+    let w = came_within r.came in
+    let l = log_length (list_of r.came) in
+    let rest = left_as (ap log_bytes turn.1 ∙ log_append (list_of r.came) later) at.loop-left.invariant.4 in (
+      omega (arith, h.some, h.few),
+      omega (arith, p.ends, h.some, h.few),
+      puts_length p ∙ at.loop-left.invariant.2,
+      sym turn.0 ∙ at.loop-left.invariant.3,
+      left_then rest p,
+    )
+
+pub shape_of-log : goal.shape_of-log
+shape_of-log c = c.loop-left.invariant.2
+
+pub returns : goal.returns
+returns c =
+    let at = c in
+    let a = at.args in
+    let e : at.loop-left.left ≡ 0 = omega arith in
+    record {
+      sampler = sym (no_after at.loop-left.now-sampler a.level a.setting) ∙ rw e at at.loop-left.invariant.3;
+      puts = left_none (left_as (rw e (no_arrivals at.loop-left.now-sampler a.level a.setting)) at.loop-left.invariant.4);
+    }

@@ -1,0 +1,42 @@
+-- `hear_said` meets its contract, line by line. Assumes nothing.
+use mathlib.Core.Path.{sym, ◌∙◌}
+use native.Mathlib.Omega.{arith}
+use Rattle.text.proofs.Laws.Puts.{puts_none, puts_as}
+use Rattle.vcd_capture.specs.Ear.{ear_said, heard_said}
+use Rattle.vcd_capture.proofs.Laws.Hearing.{log_none}
+use borrow.Author.Rules.{rules}
+use Rattle.vcd_capture.proofs.ear.hear_said.Goals as goal
+
+pub hear_until-requires : goal.hear_until-requires
+hear_until-requires c =
+    let start = c in
+    (omega arith, start.requires.0, start.requires.1)
+
+pub returns-in-NoLine : goal.returns-in-NoLine
+unfolding ear_said heard_said
+returns-in-NoLine c =
+    let a = c.args in
+    record {
+      ear = rw c.enum_told.given.1;
+      puts = puts_as (rw c.enum_told.given.1 (sym log_none)) (puts_none a.at a.log.now);
+    }
+
+pub returns-in-TimeLine : goal.returns-in-TimeLine
+unfolding ear_said heard_said
+returns-in-TimeLine c =
+    let until = c in
+    let said = until in
+    record {
+      ear = rw said.said.given.1 until.hear_until.ensures.ear;
+      puts = puts_as (rw said.said.given.1) until.hear_until.ensures.puts;
+    }
+
+pub returns-in-ValueLine : goal.returns-in-ValueLine
+unfolding ear_said heard_said
+returns-in-ValueLine c =
+    let said = c in
+    let a = said.args in
+    record {
+      ear = c.hear_value.ensures ∙ rw said.said2.given.1;
+      puts = puts_as (rw said.said2.given.1 (sym log_none)) (puts_none a.at a.log.now);
+    }

@@ -1,0 +1,39 @@
+-- `hear_until` meets its contract: the pulses that are left come at the level of the wire. Assumes nothing.
+use Prim.Native.Nat.{◌-◌}
+use mathlib.Core.Path.{◌≡◌, ◌∙◌}
+use native.Mathlib.Omega.{arith}
+use Rattle.text.proofs.Laws.Puts.{puts_as}
+use Rattle.vcd_capture.specs.Ear.{pulses_before, ear_until, heard_until}
+use Rattle.vcd_capture.proofs.Laws.Hearing.{pulses_within}
+use borrow.Author.Rules.{rules}
+use Rattle.vcd_capture.proofs.ear.hear_until.Goals as goal
+
+pub hear_pulses-heard-requires : goal.hear_pulses-heard-requires
+hear_pulses-heard-requires c =
+    let left = c in
+    let a = left.args in
+    let few = pulses_within a.period a.time left.requires.0 in
+    let n = left.pulses_before.ensures in
+    let m = left.pulses_left-times.ensures in
+    omega (arith, left.requires.1, left.requires.2)
+
+pub overflow_add-result : goal.overflow_add-result
+overflow_add-result c =
+    let left = c in
+    let a = left.args in
+    let few = pulses_within a.period a.time left.requires.0 in
+    let n = left.pulses_before.ensures in
+    let m = left.pulses_left-times.ensures in
+    omega (arith, left.requires.1, left.requires.2)
+
+pub returns : goal.returns
+unfolding ear_until heard_until
+returns c =
+    let heard = c in
+    let left = heard in
+    let a = left.args in
+    let n : left.pulses_left-times.result ≡ pulses_before a.period a.time - a.ear.done = left.pulses_left-times.ensures ∙ rw left.pulses_before.ensures in
+    record {
+      ear = rw (heard.hear_pulses-heard.ensures.sampler, n);
+      puts = puts_as (rw n) heard.hear_pulses-heard.ensures.puts;
+    }

@@ -1,0 +1,19 @@
+-- `take_came` meets its contract: a character, or none. Assumes nothing.
+use mathlib.Core.Path.{sym, ◌∙◌, ap}
+use Rattle.sampler_hunting.specs.declared.hunting.Came.{Came}
+use Rattle.sampler.specs.Lines.{list_of}
+use Rattle.text.proofs.Laws.Puts.{puts_none, puts_as}
+use Rattle.vcd_capture.specs.Logs.{log_bytes}
+use Rattle.vcd_capture.proofs.Laws.Hearing.{log_none, log_one}
+use borrow.Author.Rules.{rules}
+use Rattle.vcd_capture.proofs.ear.take_came.Goals as goal
+
+pub returns-in-NoCharacter : goal.returns-in-NoCharacter
+returns-in-NoCharacter c =
+    let a = c.args in
+    puts_as (sym (ap (λ (x : Came). log_bytes (list_of x)) c.enum_told.given.1 ∙ log_none)) (puts_none a.at a.log.now)
+
+pub returns-in-Arrival : goal.returns-in-Arrival
+returns-in-Arrival c =
+    let put = c in
+    puts_as (sym (ap (λ (x : Came). log_bytes (list_of x)) put.came.given.1 ∙ log_one _)) put.put_character.ensures

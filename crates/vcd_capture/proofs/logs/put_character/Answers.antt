@@ -1,0 +1,19 @@
+-- `put_character` meets its contract: the byte, and then the marks. Assumes nothing.
+use Prim.Native.Nat.{ℕ}
+use mathlib.Core.Path.{refl, ap}
+use mathlib.Core.List.{[], ◌∷◌}
+use native.Mathlib.Omega.{arith}
+use Rattle.text.proofs.Laws.Puts.{puts_one, puts_then, puts_as}
+use Rattle.vcd_capture.specs.Logs.{character_bytes}
+use borrow.Author.Rules.{rules}
+use Rattle.vcd_capture.proofs.logs.put_character.Goals as goal
+
+pub returns : goal.returns
+unfolding character_bytes
+returns c =
+    let last = c in
+    let marks = last in
+    let first = marks in
+    let a = first.args in
+    puts_as (ap (λ (m : ℕ). a.character.byte ∷ m ∷ []) marks.marks_byte.ensures)
+    (puts_then (puts_one _ _ _ _ _ refl first.put.ensures) (puts_one _ _ _ _ _ (omega arith) last.put-2.ensures))

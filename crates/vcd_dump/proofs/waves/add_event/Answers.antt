@@ -1,0 +1,28 @@
+-- `add_event` meets its contract: a tick writes what the time that ends has to write. Assumes nothing.
+use mathlib.Core.Path.{sym}
+use Rattle.format.specs.Pick.{pick}
+use Rattle.format.proofs.Laws.Pick.{pick_yes, pick_no}
+use Rattle.text.proofs.Laws.Puts.{puts_none, puts_as}
+use Rattle.vcd_dump.specs.Wave.{wave_after}
+use borrow.Author.Rules.{rules}
+use Rattle.vcd_dump.proofs.waves.add_event.Goals as goal
+
+pub returns-then-tick : goal.returns-then-tick
+unfolding wave_after pick
+returns-then-tick c =
+    let put = c in
+    let test = put in
+    let a = test.args in
+    record {
+      wave = rw (test.if-tick.true, test.values_of-values.ensures);
+      puts = puts_as (sym (pick_yes a.tick _ _ test.if-tick.true)) put.put_changes-at.ensures;
+    }
+
+pub returns : goal.returns
+unfolding wave_after pick
+returns c =
+    let a = c.args in
+    record {
+      wave = rw (c.if-tick.false, c.values_of-values.ensures);
+      puts = puts_as (sym (pick_no a.tick _ _ c.if-tick.false)) (puts_none a.wave.at a.space.now);
+    }

@@ -1,0 +1,117 @@
+-- `write_waves` meets its contract. The invariant of its loop: what is left of the text leads to the whole. Assumes nothing.
+use Prim.Native.Nat.{◌+◌, ◌-◌, ◌/◌, ◌^◌, ◌≤◌, ◌<◌}
+use mathlib.Core.Path.{◌≡◌, refl, sym, ◌∙◌, ap}
+use native.Mathlib.Omega.{arith}
+use lib.ListN.{length}
+use borrow.Author.Rules.{rules}
+use Rattle.chip_step.specs.Chip.{step_of}
+use Rattle.chip_fast.proofs.Laws.Ticked.{sound_answer_lem}
+use Rattle.text.proofs.Laws.Puts.{puts_then, puts_as, puts_length, left_all}
+use Rattle.vcd_text.proofs.Examples.{header_length}
+use Rattle.vcd_dump.proofs.Laws.Rest.{text_is}
+use Rattle.vcd_dump.proofs.Laws.Stands.{Stands, small, stands_on, stands-refused, stands-end}
+use Rattle.vcd_dump.proofs.waves.write_waves.Goals as goal
+
+abbrev begun : (c : tie.At-loop invariant-loop decreases-loop) → tie.After-put-header invariant-loop decreases-loop
+begun c = c
+
+-- a wave has room for one time more
+fits : (c : tie.At-loop invariant-loop decreases-loop)
+    → (c.loop-i.wave.at + 55 < 2 ^ 64) × (c.loop-i.wave < 2 ^ 11) × (c.loop-i.wave.values < 2 ^ 11)
+fits c =
+    let st = c.loop-i.invariant.1 in
+    let b = (begun c).put_header-begun.ensures.ends in
+    (omega (arith, st.place, b, header_length, (begun c).requires.1), st, small _ _ _ _ st)
+
+few : (c : tie.At-loop invariant-loop decreases-loop) → length (begun c).args.events.now / 3 ≤ 1000000
+few c = (begun c).requires.1
+
+pub loop-i-init : goal.loop-i-init
+loop-i-init c =
+    let start = c in (
+      omega arith,
+      record {
+        sound = start.requires.0;
+        values = c.values_of.ensures ∙ rw c.device_lines.ensures;
+        before = omega arith;
+        tick = omega arith;
+        place = omega arith;
+        same = refl;
+        left = left_all _ _ _;
+      },
+    )
+
+pub record_at-event-requires : goal.record_at-event-requires
+
+pub record_at-event-requires : goal.record_at-event-requires
+
+pub put_changes-requires : goal.put_changes-requires
+put_changes-requires c =
+    let loop = c in
+    fits loop
+
+pub shape_of-space-then-answer-ne0 : goal.shape_of-space-then-answer-ne0
+shape_of-space-then-answer-ne0 c =
+    let put = c in
+    let loop = put in
+    puts_length put.put_changes.ensures ∙ loop.loop-i.invariant.1.same ∙ puts_length (begun loop).put_header-begun.ensures
+
+pub returns-then-answer-ne0 : goal.returns-then-answer-ne0
+returns-then-answer-ne0 c =
+    let put = c in
+    let test = put in
+    let step = test in
+    let read = step in
+    let loop = read in
+    let st = loop.loop-i.invariant.1 in
+    let a = (begun loop).args in
+    puts_as (text_is _ a.device a.events.now refl)
+    (puts_then (begun loop).put_header-begun.ensures
+    (stands-refused _ _ _ _ loop.loop-i.i read.record_at-event.result step.sound_step-answer.result (omega arith) st read.record_at-event.ensures
+    (step.sound_step-answer.ensures ∙ sound_answer_lem loop.loop-i.state _ st.sound ∙ ap (step_of loop.loop-i.state) step.event_of.ensures)
+    test.if-answer-ne0.true
+    put.put_changes.ensures))
+
+pub add_event-wave-requires : goal.add_event-wave-requires
+add_event-wave-requires c =
+    let loop = c in
+    let f = fits loop in
+    (f.0, f.1, f.2, omega (arith, loop.loop-i.invariant.1.tick, few loop, c.loop-i-test.true))
+
+pub overflow_add-i : goal.overflow_add-i
+overflow_add-i c =
+    let test = c in
+    omega (arith, few test, test.loop-i-test.true)
+
+pub loop-i-preserved : goal.loop-i-preserved
+loop-i-preserved c =
+    let add = c in
+    let test = add in
+    let step = test in
+    let read = step in
+    let loop = read in
+    let st = loop.loop-i.invariant.1 in (
+      omega arith,
+      stands_on _ _ _ _ loop.loop-i.i read.record_at-event.result step.sound_step-answer.result (omega arith) st read.record_at-event.ensures
+          (step.sound_step-answer.ensures ∙ sound_answer_lem loop.loop-i.state _ st.sound ∙ ap (step_of loop.loop-i.state) step.event_of.ensures)
+          test.if-answer-ne0.false
+          add.add_event-wave.ensures,
+    )
+
+pub put_changes-requires-2 : goal.put_changes-requires-2
+put_changes-requires-2 c = fits c
+
+pub shape_of-space : goal.shape_of-space
+shape_of-space c =
+    let put = c in
+    let loop = put in
+    puts_length put.put_changes-2.ensures ∙ loop.loop-i.invariant.1.same ∙ puts_length (begun loop).put_header-begun.ensures
+
+pub returns : goal.returns
+returns c =
+    let put = c in
+    let loop = put in
+    let a = (begun loop).args in
+    puts_as (text_is _ a.device a.events.now refl)
+    (puts_then (begun loop).put_header-begun.ensures
+    (stands-end _ _ _ _ loop.loop-i.i (omega arith) loop.loop-i.invariant.1 put.put_changes-2.ensures))

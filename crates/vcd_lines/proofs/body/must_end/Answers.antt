@@ -1,0 +1,12 @@
+use Rattle.format.proofs.Laws.{steps}
+use Rattle.vcd_lines.specs.Body.{must_end}
+use borrow.Author.Rules.{rules}
+use Rattle.vcd_lines.proofs.body.must_end.Goals as goal
+
+pub returns-then-byte-eq10 : goal.returns-then-byte-eq10
+unfolding must_end
+returns-then-byte-eq10 c = search steps
+
+pub returns : goal.returns
+unfolding must_end
+returns c = simp c.place_at.ensures (search steps)

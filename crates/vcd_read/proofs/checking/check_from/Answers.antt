@@ -1,0 +1,30 @@
+-- `check_from` meets its contract. The invariant of its loop: the bytes that are left lead to the end that is asked. Assumes nothing.
+use Prim.Native.Nat.{◌-◌, ◌≤◌}
+use mathlib.Core.Path.{◌≡◌, sym, ◌∙◌}
+use native.Mathlib.Omega.{arith}
+use lib.ListN.{length, drop}
+use Rattle.vcd_read.specs.Scan.{in_table, checked_of, unchecked}
+use Rattle.vcd_read.proofs.Laws.Checking.{checked_next, checked_end}
+use borrow.Author.Rules.{rules}
+use Rattle.vcd_read.proofs.checking.check_from.Goals as goal
+
+pub loop-i-init : goal.loop-i-init
+loop-i-init c = (omega arith, rw c.start.ensures)
+
+pub overflow_cast-known : goal.overflow_cast-known
+overflow_cast-known c = omega (arith, c.shared-slice-known2.given c.loop-i.i)
+
+pub bounds-codes-byte : goal.bounds-codes-byte
+bounds-codes-byte c = omega (arith, c.shared-slice-known2.given c.loop-i.i)
+
+pub loop-i-preserved : goal.loop-i-preserved
+loop-i-preserved c =
+    let at = c in
+    let a = at.args in
+    (omega arith, rw c.check_byte-checked.ensures (sym (checked_next a.text.now at.loop-i.i (in_table a.codes.now) at.loop-i.checked (omega arith)) ∙ at.loop-i.invariant.1))
+
+pub returns : goal.returns
+returns c =
+    let at = c in
+    let a = at.args in
+    sym (checked_end a.text.now at.loop-i.i (in_table a.codes.now) at.loop-i.checked (omega arith)) ∙ at.loop-i.invariant.1

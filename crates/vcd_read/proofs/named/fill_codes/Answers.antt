@@ -1,0 +1,52 @@
+-- `fill_codes` meets its contract. The invariant of its loop: the wires that are left fill the rest. Assumes nothing.
+use Prim.Native.Nat.{suc, ◌+◌, ◌-◌, ◌≤◌}
+use mathlib.Core.Path.{◌≡◌, refl, sym, ◌∙◌}
+use native.Mathlib.Omega.{arith}
+use lib.ListN.{length, drop, length-set}
+use borrow.Author.Tests.{not-true, not-false}
+use Rattle.vcd_read.specs.Wires.{wires_of, filled}
+use Rattle.vcd_read.proofs.Laws.Wires.{told_here, told_none, wires_none, wires_zero, filled_next}
+use Rattle.vcd_read.proofs.Laws.Wires.{none_filled}
+use borrow.Author.Rules.{rules}
+use Rattle.vcd_read.proofs.named.fill_codes.Goals as goal
+
+pub loop-n-init : goal.loop-n-init
+loop-n-init c = (omega arith, omega arith, refl, refl)
+
+pub shape_of-codes-then-not-wire : goal.shape_of-codes-then-not-wire
+shape_of-codes-then-not-wire c = c.loop-n.invariant.2
+
+pub returns-then-not-wire : goal.returns-then-not-wire
+returns-then-not-wire c =
+    let wire = c in
+    let at = wire in
+    let a = at.args in
+    let none = told_none a.text.now at.loop-n.next _ wire.wire_at-wire.ensures (not-true _ c.if-not-wire.true) in
+    sym (none_filled _ at.loop-n.codes (wires_none (17 - at.loop-n.n) _ none).0) ∙ at.loop-n.invariant.3
+
+pub loop-n-preserved : goal.loop-n-preserved
+loop-n-preserved c =
+    let put = c in
+    let test = put in
+    let wire = test in
+    let at = wire in
+    let a = at.args in
+    let here = told_here a.text.now at.loop-n.next _ at.loop-n.invariant.1 wire.wire_at-wire.ensures (not-false _ test.if-not-wire.false) in
+    let text = drop at.loop-n.next a.text.now in
+    let e : 17 - at.loop-n.n ≡ suc (17 - (at.loop-n.n + 1)) = omega arith in
+    let decided = rw e at at.loop-n.invariant.3 in (
+      omega arith,
+      here.fits,
+      rw put.put.ensures (simp length-set at.loop-n.invariant.2),
+      rw (here.rest, put.put.ensures, here.code) (sym (filled_next (17 - (at.loop-n.n + 1)) text here.is at.loop-n.codes) ∙ decided),
+    )
+
+pub shape_of-codes : goal.shape_of-codes
+shape_of-codes c = c.loop-n.invariant.2
+
+pub returns : goal.returns
+returns c =
+    let at = c in
+    let a = at.args in
+    let e : 17 - at.loop-n.n ≡ 0 = omega arith in
+    sym (none_filled _ at.loop-n.codes (rw e (wires_zero (drop at.loop-n.next a.text.now)).0)) ∙ at.loop-n.invariant.3

@@ -1,0 +1,62 @@
+-- `wires_at` meets its contract. The invariant of its loop: those counted, and those that are left, are all. Assumes nothing.
+use Prim.Native.Nat.{ℕ, suc, ◌+◌, ◌-◌, ◌≤◌}
+use mathlib.Core.Path.{◌≡◌, refl, sym, ◌∙◌, ap}
+use native.Mathlib.Omega.{arith}
+use lib.ListN.{length, drop, length-drop}
+use lib.Seq.{drop-drop}
+use borrow.Author.Tests.{not-true, not-false}
+use Rattle.vcd_read.specs.declared.wires.WireAt.{WireAt}
+use Rattle.vcd_read.specs.declared.wires.Wires.{Wires}
+use Rattle.vcd_read.specs.Wires.{wire_end, wires_of, wires_end}
+use Rattle.vcd_read.proofs.Laws.Wires.{here_is, wire_here_lem, wire_within, wires_none, wires_zero, wires_next}
+use borrow.Author.Rules.{rules}
+use Rattle.vcd_read.proofs.wires.wires_at.Goals as goal
+
+-- where none is left, what is counted is all
+ends : {count end left rest all last : ℕ} → count + left ≡ all → end + rest ≡ last → left ≡ 0 → rest ≡ 0
+    → ◌≡◌ {A = Wires} (record { count = count; end = end }) (record { count = all; end = last })
+ends {count} {end} {left} {rest} {all} {last} h k l z =
+    let a : count ≡ all = omega arith in
+    let b : end ≡ last = omega arith in
+    rw (a, b)
+
+pub loop-count-init : goal.loop-count-init
+loop-count-init c = (omega arith, omega arith, omega arith, refl)
+
+pub returns-then-not-wire : goal.returns-then-not-wire
+returns-then-not-wire c =
+    let wire = c in
+    let at = wire in
+    let text = drop at.loop-count.end at.args.text.now in
+    let none = sym (ap (λ (w : WireAt). w.here) wire.wire_at-wire.ensures ∙ here_is text at.loop-count.end) ∙ not-true _ c.if-not-wire.true in
+    let w = wires_none (17 - at.loop-count.count) text none in
+    let l = ap length w.0 in
+    let z = w.1 in
+    (ends at.loop-count.invariant.2 at.loop-count.invariant.3 l z, at.loop-count.invariant.1)
+
+pub loop-count-preserved : goal.loop-count-preserved
+loop-count-preserved c =
+    let wire = c in
+    let at = wire in
+    let text = drop at.loop-count.end at.args.text.now in
+    let here = sym (ap (λ (w : WireAt). w.here) wire.wire_at-wire.ensures ∙ here_is text at.loop-count.end) ∙ not-false _ c.if-not-wire.false in
+    let e : 17 - at.loop-count.count ≡ suc (17 - (at.loop-count.count + 1)) = omega arith in
+    let w = wires_next (17 - (at.loop-count.count + 1)) text here in
+    let f = ap (λ (w : WireAt). w.end) (wire.wire_at-wire.ensures ∙ wire_here_lem text at.loop-count.end here) in
+    let d : drop (at.loop-count.end + wire_end text) at.args.text.now ≡ drop (wire_end text) text
+    = sym (drop-drop (wire_end text) at.loop-count.end at.args.text.now) in
+    let many = rw (e, w.0) at at.loop-count.invariant.2 in
+    let far = rw (e, w.1) at at.loop-count.invariant.3 in
+    let inside = wire_within text here in
+    let left = length-drop at.loop-count.end at.args.text.now in
+    rw (f, d) (omega arith, omega arith, omega arith, omega arith)
+
+pub returns : goal.returns
+returns c =
+    let at = c in
+    let text = drop at.loop-count.end at.args.text.now in
+    let e : 17 - at.loop-count.count ≡ 0 = omega arith in
+    let w = wires_zero text in
+    let l : length (wires_of (17 - at.loop-count.count) text) ≡ 0 = rw e (ap length w.0) in
+    let z : wires_end (17 - at.loop-count.count) text ≡ 0 = rw e w.1 in
+    (ends at.loop-count.invariant.2 at.loop-count.invariant.3 l z, at.loop-count.invariant.1)

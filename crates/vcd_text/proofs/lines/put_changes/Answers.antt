@@ -1,0 +1,44 @@
+-- `put_changes` meets its contract: at time 0 the time and all values, later both where a value differs, else nothing. Assumes nothing.
+use mathlib.Core.Path.{sym}
+use native.Mathlib.Omega.{arith}
+use Rattle.text.proofs.Laws.Puts.{puts_none, puts_then, puts_as}
+use Rattle.vcd_text.proofs.Laws.Changes.{time_within}
+use Rattle.vcd_text.proofs.Laws.Words.{first_changes, no_changes, some_changes}
+use borrow.Author.Rules.{rules}
+use Rattle.vcd_text.proofs.lines.put_changes.Goals as goal
+
+pub put_values-requires : goal.put_values-requires
+put_values-requires c =
+    let time = c in
+    let start = time in
+    omega (arith, time_within start.args.tick, time.put_time-begun.ensures.ends, start.requires)
+
+pub returns-then-tick-eq0 : goal.returns-then-tick-eq0
+returns-then-tick-eq0 c =
+    let values = c in
+    let time = values in
+    let a = time.args in
+    puts_as (first_changes a.tick a a.values time.if-tick-eq0.true)
+    (puts_then time.put_time-begun.ensures values.put_values.ensures)
+
+pub returns-then-before-values : goal.returns-then-before-values
+returns-then-before-values c =
+    let a = c.args in
+    puts_as (sym (no_changes a.tick a a.values c.if-tick-eq0.false c.if-before-values.true)) (puts_none a.at a.space.now)
+
+pub put_values-requires-2 : goal.put_values-requires-2
+put_values-requires-2 c =
+    let time = c in
+    let start = time in
+    omega (arith, time_within start.args.tick, time.put_time-begun-2.ensures.ends, start.requires)
+
+pub returns : goal.returns
+returns c =
+    let values = c in
+    let time = values in
+    let test = time in
+    let start = test in
+    let a = start.args in
+    puts_as
+    (some_changes a.tick a a.values test.if-tick-eq0.false test.if-before-values.false start.requires.1 start.requires.2)
+    (puts_then time.put_time-begun-2.ensures values.put_values-2.ensures)

@@ -1,0 +1,28 @@
+-- `put_time` meets its contract: `#`, the number and the line's end, one after the other. Assumes nothing.
+use Prim.Native.Nat.{ℕ}
+use mathlib.Core.Path.{refl, ap}
+use mathlib.Core.List.{[], ◌∷◌, ◌++◌}
+use native.Mathlib.Omega.{arith}
+use Rattle.text.specs.Decimal.{decimal_of}
+use Rattle.text.proofs.Laws.Decimal.{decimal_within}
+use Rattle.text.proofs.Laws.Puts.{puts_one, puts_then, puts_as}
+use Rattle.vcd_text.specs.Lines.{line_text}
+use borrow.Author.Rules.{rules}
+use Rattle.vcd_text.proofs.lines.put_time.Goals as goal
+
+pub overflow_add-result : goal.overflow_add-result
+overflow_add-result c =
+    let number = c in
+    let start = number in
+    omega (arith, decimal_within 20 number.tick_time.result, number.put_decimal-end.ensures.ends, start.requires)
+
+pub returns : goal.returns
+unfolding line_text
+returns c =
+    let last = c in
+    let number = last in
+    let time = number in
+    let first = time in
+    puts_as (ap (λ (n : ℕ). 35 ∷ decimal_of 20 n ++ 10 ∷ []) time.tick_time.ensures)
+    (puts_then (puts_one _ _ _ _ _ refl first.put.ensures)
+    (puts_then number.put_decimal-end.ensures (puts_one _ _ _ _ _ refl last.put-2.ensures)))

@@ -1,0 +1,52 @@
+-- `put_values` meets its contract. The invariant of its loop: the lines of the wires that are left lead to the end that is asked. A turn puts the
+-- line of the next wire, if it has one. Assumes nothing.
+use Prim.Native.Nat.{ℕ, suc, ◌+◌, ◌*◌, ◌-◌, ◌%◌, ◌≤◌}
+use mathlib.Core.Path.{◌≡◌, refl, sym, ◌∙◌, ap}
+use native.Mathlib.Omega.{arith}
+use mathlib.Core.Bool.{Bool, not, ◌||◌}
+use mathlib.Core.List.{List, []}
+use lib.Dec.{eqb}
+use lib.ListN.{length}
+use Rattle.format.specs.Digits.{bits_of}
+use Rattle.format.specs.Pick.{pick}
+use Rattle.text.specs.Puts.{Puts}
+use Rattle.text.proofs.Laws.Puts.{Left, left_all, left_as, left_then, left_none, puts_length}
+use Rattle.vcd_text.specs.Changes.{value_line, value_lines}
+use Rattle.vcd_text.specs.Words.{written_before}
+use Rattle.vcd_text.proofs.Laws.Changes.{value_within}
+use Rattle.vcd_text.proofs.Laws.Words.{next_wire, no_wire}
+use borrow.Author.Rules.{rules}
+use Rattle.vcd_text.proofs.lines.put_values.Goals as goal
+
+value-ends : {at end : ℕ} {s t : List ℕ} (changed : Bool) (code : ℕ) (level : Bool) → Puts at (pick changed (value_line code level) []) s t end → end ≤ at + 3
+value-ends {at} {end} changed code level p = let l = value_within changed code level in omega (arith, p.ends)
+
+pub loop-code-init : goal.loop-code-init
+loop-code-init c = (omega arith, omega arith, omega arith, refl, left_all _ _ _)
+
+pub put_value-next-requires : goal.put_value-next-requires
+put_value-next-requires c = omega (arith, c.requires)
+
+pub loop-code-preserved : goal.loop-code-preserved
+loop-code-preserved c =
+    let put = c in
+    let at = put in
+    let a = at.args in
+    let w : 44 - at.loop-code.code ≡ suc (44 - (at.loop-code.code + 1)) = omega arith in
+    let p = put.put_value-next.ensures in
+    let l = value-ends (a.none || not (eqb (at.loop-code.old % 2) (at.loop-code.new % 2))) at.loop-code.code (eqb (at.loop-code.new % 2) 1) p in (
+      omega arith,
+      omega arith,
+      omega arith,
+      puts_length p ∙ at.loop-code.invariant.3,
+      left_then (left_as (next_wire a.none (44 - (at.loop-code.code + 1)) at.loop-code.code at.loop-code.old at.loop-code.new) (rw w at at.loop-code.invariant.4)) p,
+    )
+
+pub shape_of-space : goal.shape_of-space
+shape_of-space c = c.loop-code.invariant.3
+
+pub returns : goal.returns
+returns c =
+    let at = c in
+    let e : 44 - at.loop-code.code ≡ 0 = omega arith in
+    left_none (left_as (no_wire _ _ _) (rw e at at.loop-code.invariant.4))
