@@ -34,7 +34,7 @@ def blocks(text):
         elif not line.strip():
             if current is not None:
                 current["lines"].append(line)
-        elif not line[0].isspace() and re.match(r"((abbrev|pub|unfoldable) )*\S+( \{.*\}| \(.*\))* :( |$)", line) or line.startswith(("pub record", "record", "pub data", "data", "ruleset", "pub ruleset")):
+        elif not line[0].isspace() and re.match(r"((abbrev|pub|unfoldable) )*\S+( \{.*\}| \(.*\))* :( |$)", line) or line.startswith(("pub record ", "record ", "pub data ", "data ", "ruleset ", "pub ruleset ")):
             current = {"comments": comments, "lines": [line]}
             comments = []
             decls.append(current)
@@ -99,34 +99,53 @@ def turn_file(path, crate, names, said):
                         n = re.sub(r"-" + x + r"(-\d+)?$", lambda k: "-" + y + (k.group(1) or ""), n)
                     old[a] = n
     table = {flat(o): n for o, n in needs}
-    goal_of = {}
+    goal_of, place_of = {}, {}
+    asked = {flat(n[0]): q[0] for n, q in zip(needs, it["asked_at"])}
     for i, a in enumerate(goals):
         o = flat(old.get(a, ""))
         if o in table:
             goal_of[a] = table[o]
+            place_of[a] = asked[o]
         elif len(goals) == len(needs):
             goal_of[a] = needs[i][1]
+            place_of[a] = it["asked_at"][i][0]
         else:
             settled = [s for s in it["settled"] if flat(s).endswith(o)]
             if not settled or not o:
                 said.append(f"{path}: no goal for `{a}` ({old.get(a)}); goals: {[n for n in needs]}")
-    # steps
-    steps = {}
-    for old_place, parent, (o, n), callee, more in it["places"]:
-        if o:
-            steps.setdefault(flat(o), n)
-    plain = {flat(o): n for o, n in steps.items() if not n.endswith("-1") or "arg" in o}
+    # steps: on the way to a place each has one name
+    parents = {place: (parent, o, n) for place, parent, (o, n), callee, more in it["places"]}
+    fresh = {n for place, parent, (o, n), callee, more in it["places"]}
+    everywhere = {}
+    for place, parent, (o, n), callee, more in it["places"]:
+        if o and (not n.endswith("-1") or "arg" in o):
+            everywhere.setdefault(flat(o), n)
 
-    def field(mm):
-        w = flat(mm.group(1))
-        return "." + plain.get(w, mm.group(1))
+    def way(place):
+        table = {}
+        while place in parents:
+            parent, o, n = parents[place]
+            if o and (not n.endswith("-1") or "arg" in o):
+                table.setdefault(flat(o), n)
+            place = parent
+        return table
 
-    def turn_body(t):
+    def turn_body(t, place=None):
+        here = dict(everywhere)
+        if place:
+            here.update(way(place))
+
+        def field(mm):
+            w = mm.group(1)
+            if flat(w) in here:
+                return "." + here[flat(w)]
+            if w not in fresh and re.fullmatch(r"[a-z][a-z0-9]*(-[a-z][a-z0-9]*)+", w):
+                return "." + w.replace("-", "_")
+            return "." + w
+
         t = re.sub(r"(?:\.before)+(?=\.)", "", t)
         t = re.sub(r"(\w)(?:\.before)+(?![\w-])", r"\1", t)
-        t = PATH.sub(field, t)
-        t = re.sub(r"\b(c|w)\.(\S+?)(?=[\s).,;]|$)", lambda mm: mm.group(0), t)
-        return t
+        return PATH.sub(field, t)
 
     kept_uses = [u for u in uses if not re.search(r"\.(Statement\.\{statement\}|Tie as tie)$", u)]
     module = f"Rattle.{crate}.proofs.{where}"
@@ -170,7 +189,7 @@ def turn_file(path, crate, names, said):
             rest = rest[k:]
             t = "\n".join(rest)
             t = re.sub(r"^" + re.escape(a) + r" c( κs)?( =|\n)", lambda mm: g + " c" + mm.group(2), t)
-            t = turn_body(t)
+            t = turn_body(t, place_of.get(a))
             simple = re.sub(r"\s+", " ", t.split("=", 1)[1]).strip() if "=" in t else ""
             if simple in ("search rules", "omega arith", "refl", "search (rules, arith)") and not unfold:
                 continue

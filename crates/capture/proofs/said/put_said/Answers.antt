@@ -31,7 +31,7 @@ put_lines-after_a-requires c =
     let a = c in
     let read = a.read_capture-captured in
     let start = a in
-    part_fits read.result.length_a read.new.1.1.1.1.0 (omega arith) a.log-a.given start.requires.0
+    part_fits read.result.length_a read.new.1.1.1.1.0 (omega arith) a.log_a.given start.requires.0
 
 pub slice_bounds-put_lines-end-3 : goal.slice_bounds-put_lines-end-3
 slice_bounds-put_lines-end-3 c =
@@ -51,8 +51,8 @@ put_lines-requires c =
     let read = a.read_capture-captured in
     let start = a in
     let log = read.new.1.1.1.1 in
-    let end = part_ends 65 read.result.length_a log.0 a.log-a.given start.requires.0 first.put_lines-after_a.ensures in
-    part_fits read.result.length_b log.1.0 end b.log-b.given start.requires.1
+    let end = part_ends 65 read.result.length_a log.0 a.log_a.given start.requires.0 first.put_lines-after_a.ensures in
+    part_fits read.result.length_b log.1.0 end b.log_b.given start.requires.1
 
 pub returns : goal.returns
 returns c =
@@ -66,7 +66,7 @@ returns c =
     let log = read.new.1.1.1.1 in
     let put = first.put_lines-after_a.ensures in
     let then = second.put_lines.ensures in
-    let end = part_ends 65 read.result.length_a log.0 a.log-a.given start.requires.0 put in
-    let last = part_ends 66 read.result.length_b log.1.0 b.log-b.given start.requires.1 then in
+    let end = part_ends 65 read.result.length_a log.0 a.log_a.given start.requires.0 put in
+    let last = part_ends 66 read.result.length_b log.1.0 b.log_b.given start.requires.1 then in
     puts_front (puts_as (said-lines _ _ _ _ _ _ _ _ _ read.ensures test.if-captured-ne0.false) (puts_then put then))
     (omega (arith, end, last, start.requires.2))

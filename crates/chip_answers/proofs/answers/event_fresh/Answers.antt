@@ -22,7 +22,7 @@ returns-in-Write c = simp c.event2.given.1
 
 pub returns-in-Acknowledge : goal.returns-in-Acknowledge
 unfolding event_fresh pick
-returns-in-Acknowledge c = simp c.enum-told2.given.1
+returns-in-Acknowledge c = simp c.enum_told2.given.1
 
 pub returns-in-Pins : goal.returns-in-Pins
 unfolding event_fresh pick
@@ -30,4 +30,4 @@ returns-in-Pins c = simp c.event3.given.1
 
 pub returns-in-Tick : goal.returns-in-Tick
 unfolding event_fresh pick
-returns-in-Tick c = simp c.enum-told3.given.1
+returns-in-Tick c = simp c.enum_told3.given.1

@@ -13,23 +13,23 @@ front_data-requires c = tt
 
 pub returns-in-1 : goal.returns-in-1
 unfolding register_data pick
-returns-in-1 c = simp c.match.keys1
+returns-in-1 c = simp c.in-3.keys1
 
 pub returns-in-3 : goal.returns-in-3
 unfolding register_data pick
-returns-in-3 c = simp c.match.keys2
+returns-in-3 c = simp c.in-3.keys2
 
 pub returns-in-5 : goal.returns-in-5
 unfolding register_data pick
-returns-in-5 c = simp (c.isr_of.ensures, c.match.keys3)
+returns-in-5 c = simp (c.isr_of.ensures, c.in-5.keys3)
 
 pub returns-in-9 : goal.returns-in-9
 unfolding register_data pick
-returns-in-9 c = simp c.match.keys4
+returns-in-9 c = simp c.in-9.keys4
 
 pub returns-in-11 : goal.returns-in-11
 unfolding register_data pick
-returns-in-11 c = simp c.match.keys5
+returns-in-11 c = simp c.in-11.keys5
 
 pub returns-in_default : goal.returns-in_default
 unfolding register_data

@@ -10,7 +10,7 @@ returns-in-3 c = simp c.in-3.keys1
 
 pub returns-in-11 : goal.returns-in-11
 unfolding register_fresh pick
-returns-in-11 c = simp c.in-3.keys2
+returns-in-11 c = simp c.in-11.keys2
 
 pub returns-in_default : goal.returns-in_default
 unfolding register_fresh

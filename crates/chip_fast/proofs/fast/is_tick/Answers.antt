@@ -17,7 +17,7 @@ returns-in-Write c = simp c.event2.given.1
 
 pub returns-in-Acknowledge : goal.returns-in-Acknowledge
 unfolding is_tick
-returns-in-Acknowledge c = simp c.enum-told2.given.1
+returns-in-Acknowledge c = simp c.enum_told2.given.1
 
 pub returns-in-Pins : goal.returns-in-Pins
 unfolding is_tick
@@ -25,4 +25,4 @@ returns-in-Pins c = simp c.event3.given.1
 
 pub returns-in-Tick : goal.returns-in-Tick
 unfolding is_tick
-returns-in-Tick c = simp c.enum-told3.given.1
+returns-in-Tick c = simp c.enum_told3.given.1

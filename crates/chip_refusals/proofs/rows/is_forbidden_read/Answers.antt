@@ -18,7 +18,7 @@ returns-in-Write c = simp c.event2.given.1
 
 pub returns-in-Acknowledge : goal.returns-in-Acknowledge
 unfolding forbidden_read pick
-returns-in-Acknowledge c = simp c.enum-told2.given.1
+returns-in-Acknowledge c = simp c.enum_told2.given.1
 
 pub returns-in-Pins : goal.returns-in-Pins
 unfolding forbidden_read pick
@@ -26,4 +26,4 @@ returns-in-Pins c = simp c.event3.given.1
 
 pub returns-in-Tick : goal.returns-in-Tick
 unfolding forbidden_read pick
-returns-in-Tick c = simp c.enum-told3.given.1
+returns-in-Tick c = simp c.enum_told3.given.1

@@ -22,7 +22,7 @@ returns-in-Write c = simp c.event2.given.1
 
 pub returns-in-Acknowledge : goal.returns-in-Acknowledge
 unfolding acknowledged_unasserted pick
-returns-in-Acknowledge c = simp (c.is_device_asserted.ensures, c.enum-told2.given.1)
+returns-in-Acknowledge c = simp (c.is_device_asserted.ensures, c.enum_told2.given.1)
 
 pub returns-in-Pins : goal.returns-in-Pins
 unfolding acknowledged_unasserted pick
@@ -30,4 +30,4 @@ returns-in-Pins c = simp c.event3.given.1
 
 pub returns-in-Tick : goal.returns-in-Tick
 unfolding acknowledged_unasserted pick
-returns-in-Tick c = simp c.enum-told3.given.1
+returns-in-Tick c = simp c.enum_told3.given.1

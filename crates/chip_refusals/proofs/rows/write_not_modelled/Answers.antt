@@ -20,11 +20,11 @@ returns-in-0 c = simp (c.mode_not_modelled.ensures, c.in-0.keys1)
 
 pub returns-in-8 : goal.returns-in-8
 unfolding write_not_modelled pick
-returns-in-8 c = simp (c.mode_not_modelled-in-8.ensures, c.in-0.keys2)
+returns-in-8 c = simp (c.mode_not_modelled-in-8.ensures, c.in-8.keys2)
 
 pub returns-in-13 : goal.returns-in-13
 unfolding write_not_modelled pick
-returns-in-13 c = simp (c.opcr_not_modelled.ensures, c.in-0.keys3)
+returns-in-13 c = simp (c.opcr_not_modelled.ensures, c.in-13.keys3)
 
 pub returns-in_default : goal.returns-in_default
 unfolding write_not_modelled

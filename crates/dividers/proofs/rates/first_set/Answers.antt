@@ -5,4 +5,4 @@ use Rattle.dividers.proofs.Laws.Entries.{past_arms, past_end}
 use Rattle.dividers.proofs.rates.first_set.Goals as goal
 
 pub returns-in_default : goal.returns-in_default
-returns-in_default c = past_end first_set _ (past_arms 13 _ c.in-0.rest)
+returns-in_default c = past_end first_set _ (past_arms 13 _ c.in_default.rest)

@@ -37,7 +37,7 @@ returns-in-Write c = simp (c.write_register.ensures, c.event2.given.1)
 
 pub returns-in-Acknowledge : goal.returns-in-Acknowledge
 unfolding front_stepped pick
-returns-in-Acknowledge c = simp (c.acknowledge.ensures, c.enum-told2.given.1)
+returns-in-Acknowledge c = simp (c.acknowledge.ensures, c.enum_told2.given.1)
 
 pub returns-in-Pins : goal.returns-in-Pins
 unfolding front_stepped pick
@@ -45,4 +45,4 @@ returns-in-Pins c = simp (c.move_levels.ensures, c.event3.given.1)
 
 pub returns-in-Tick : goal.returns-in-Tick
 unfolding front_stepped pick
-returns-in-Tick c = simp (c.tick_front.ensures, c.enum-told3.given.1)
+returns-in-Tick c = simp (c.tick_front.ensures, c.enum_told3.given.1)

@@ -20,11 +20,11 @@ returns-in-4 c = simp (c.read-Flags.ensures, c.in-4.keys1)
 
 pub returns-in-14 : goal.returns-in-14
 unfolding shared_read pick
-returns-in-14 c = simp (c.start.ensures, c.in-4.keys2)
+returns-in-14 c = simp (c.start.ensures, c.in-14.keys2)
 
 pub returns-in-15 : goal.returns-in-15
 unfolding shared_read pick
-returns-in-15 c = simp (c.stop.ensures, c.in-4.keys3)
+returns-in-15 c = simp (c.stop.ensures, c.in-15.keys3)
 
 pub returns-in_default : goal.returns-in_default
 unfolding shared_read

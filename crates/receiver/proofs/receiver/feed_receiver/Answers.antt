@@ -17,8 +17,8 @@ returns-in-Command c = simp (c.no_read-in-Command.ensures, c.take_enabling.ensur
 
 pub returns-in-Read : goal.returns-in-Read
 unfolding fed_of
-returns-in-Read c = simp (c.read.ensures, c.enum-told2.given.1)
+returns-in-Read c = simp (c.read.ensures, c.enum_told2.given.1)
 
 pub returns-in-ChipReset : goal.returns-in-ChipReset
 unfolding fed_of
-returns-in-ChipReset c = simp (c.no_read-in-ChipReset.ensures, c.fresh_receiver.ensures, c.enum-told3.given.1)
+returns-in-ChipReset c = simp (c.no_read-in-ChipReset.ensures, c.fresh_receiver.ensures, c.enum_told3.given.1)

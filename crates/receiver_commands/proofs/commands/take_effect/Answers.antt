@@ -9,12 +9,12 @@ returns-in-NoEffect c = simp c.enum_told.given.1
 
 pub returns-in-Reset : goal.returns-in-Reset
 unfolding effect_of
-returns-in-Reset c = simp (c.reset.ensures, c.enum-told2.given.1)
+returns-in-Reset c = simp (c.reset.ensures, c.enum_told2.given.1)
 
 pub returns-in-ClearErrors : goal.returns-in-ClearErrors
 unfolding effect_of
-returns-in-ClearErrors c = simp (c.clear_errors.ensures, c.enum-told3.given.1)
+returns-in-ClearErrors c = simp (c.clear_errors.ensures, c.enum_told3.given.1)
 
 pub returns-in-ClearBreakChange : goal.returns-in-ClearBreakChange
 unfolding effect_of
-returns-in-ClearBreakChange c = simp (c.clear_break_change.ensures, c.enum-told4.given.1)
+returns-in-ClearBreakChange c = simp (c.clear_break_change.ensures, c.enum_told4.given.1)

@@ -9,8 +9,8 @@ returns-in-Stays c = simp c.enum_told.given.1
 
 pub returns-in-Enables : goal.returns-in-Enables
 unfolding enabling_of
-returns-in-Enables c = simp (c.drop_character.ensures, c.enum-told2.given.1)
+returns-in-Enables c = simp (c.drop_character.ensures, c.enum_told2.given.1)
 
 pub returns-in-Disables : goal.returns-in-Disables
 unfolding enabling_of
-returns-in-Disables c = simp (c.drop_character-in-Disables.ensures, c.enum-told3.given.1)
+returns-in-Disables c = simp (c.drop_character-in-Disables.ensures, c.enum_told3.given.1)

@@ -3,10 +3,6 @@ use borrow.Author.Rules.{rules}
 use Rattle.sampler_state.specs.Assembly.{character_of}
 use Rattle.sampler_state.proofs.assembly.character_of.Goals as goal
 
-pub data_of-requires : goal.data_of-requires
-
-pub data_of-requires : goal.data_of-requires
-
 pub returns : goal.returns
 unfolding character_of
 returns c = simp (c.parity_wrong.ensures, c.data_of.ensures)

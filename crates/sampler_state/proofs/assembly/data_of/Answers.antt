@@ -6,10 +6,6 @@ use Rattle.sampler_state.specs.Assembly.{data_width_of}
 use Rattle.sampler_state.proofs.Laws.Assembly.{data_small}
 use Rattle.sampler_state.proofs.assembly.data_of.Goals as goal
 
-pub data_weight-requires : goal.data_weight-requires
-
-pub data_weight-requires : goal.data_weight-requires
-
 pub nonzero_rem-result : goal.nonzero_rem-result
 nonzero_rem-result c = rw c.data_weight.ensures (pow_pos (data_width_of c.args.format).0)
 
@@ -20,5 +16,3 @@ overflow_cast-result c =
 
 pub returns : goal.returns
 returns c = simp c.data_weight.ensures
-
-pub data-of-spec : {M : Type 1} → statement M

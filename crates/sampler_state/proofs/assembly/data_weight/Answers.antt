@@ -6,10 +6,6 @@ use Rattle.format.proofs.Laws.Digits.{power}
 use Rattle.sampler_state.proofs.Laws.Assembly.{width_eight}
 use Rattle.sampler_state.proofs.assembly.data_weight.Goals as goal
 
-pub data_width-width-requires : goal.data_width-width-requires
-
-pub data_width-width-requires : goal.data_width-width-requires
-
 eight : (c : tie.After-data-width) → c.data_width-width.result.0 ≤ 8
 eight c = rw c.data_width-width.ensures (width_eight c.args.format)
 
@@ -20,5 +16,3 @@ pub returns : goal.returns
 returns c =
     let e = eight c in
     rw (power 16 c.data_width-width.result.0 (omega arith), c.data_width-width.ensures)
-
-pub data-weight-spec : {M : Type 1} → statement M

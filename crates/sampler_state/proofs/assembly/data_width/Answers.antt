@@ -10,5 +10,3 @@ returns-then-format-lt8 c = search steps
 pub returns : goal.returns
 unfolding data_width_of
 returns c = search steps
-
-pub data-width-spec : {M : Type 1} → statement M

@@ -5,14 +5,6 @@ use Rattle.format.proofs.Laws.{steps}
 use Rattle.sampler_state.specs.Assembly.{parity_wrong_of}
 use Rattle.sampler_state.proofs.assembly.parity_wrong.Goals as goal
 
-pub data_of-requires : goal.data_of-requires
-
-pub data_of-requires : goal.data_of-requires
-
-pub data_weight-requires : goal.data_weight-requires
-
-pub data_weight-requires : goal.data_weight-requires
-
 pub nonzero_div-value : goal.nonzero_div-value
 nonzero_div-value c = rw c.data_weight.ensures (pow_pos _)
 

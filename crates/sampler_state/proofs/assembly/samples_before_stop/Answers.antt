@@ -7,10 +7,6 @@ use Rattle.sampler_state.specs.Assembly.{samples_of}
 use Rattle.sampler_state.proofs.Laws.Assembly.{width_eight}
 use Rattle.sampler_state.proofs.assembly.samples_before_stop.Goals as goal
 
-pub data_width-width-requires : goal.data_width-width-requires
-
-pub data_width-width-requires : goal.data_width-width-requires
-
 eight : (c : tie.After-data-width) → c.data_width-width.result.0 ≤ 8
 eight c = rw c.data_width-width.ensures (width_eight c.args.format)
 

@@ -17,28 +17,28 @@ returns-in-Write c = simp (c.write.ensures, c.input2.given.1)
 
 pub returns-in-Enable : goal.returns-in-Enable
 unfolding after_input
-returns-in-Enable c = simp (c.enable.ensures, c.enum-told2.given.1)
+returns-in-Enable c = simp (c.enable.ensures, c.enum_told2.given.1)
 
 pub returns-in-Disable : goal.returns-in-Disable
 unfolding after_input
-returns-in-Disable c = simp (c.disable.ensures, c.enum-told3.given.1)
+returns-in-Disable c = simp (c.disable.ensures, c.enum_told3.given.1)
 
 pub returns-in-StartBreak : goal.returns-in-StartBreak
 unfolding after_input
-returns-in-StartBreak c = simp (c.ask_break.ensures, c.enum-told4.given.1)
+returns-in-StartBreak c = simp (c.ask_break.ensures, c.enum_told4.given.1)
 
 pub returns-in-StopBreak : goal.returns-in-StopBreak
 unfolding after_input
-returns-in-StopBreak c = simp (c.end_break.ensures, c.enum-told5.given.1)
+returns-in-StopBreak c = simp (c.end_break.ensures, c.enum_told5.given.1)
 
 pub returns-in-Reset : goal.returns-in-Reset
 unfolding after_input
-returns-in-Reset c = simp (c.reset.ensures, c.enum-told6.given.1)
+returns-in-Reset c = simp (c.reset.ensures, c.enum_told6.given.1)
 
 pub returns-in-ChipReset : goal.returns-in-ChipReset
 unfolding after_input
-returns-in-ChipReset c = simp (c.fresh_transmitter.ensures, c.enum-told7.given.1)
+returns-in-ChipReset c = simp (c.fresh_transmitter.ensures, c.enum_told7.given.1)
 
 pub returns-in-ModeChange : goal.returns-in-ModeChange
 unfolding after_input
-returns-in-ModeChange c = simp (c.drop_sending.ensures, c.enum-told8.given.1)
+returns-in-ModeChange c = simp (c.drop_sending.ensures, c.enum_told8.given.1)

@@ -16,8 +16,8 @@ use Rattle.vcd_capture.proofs.capturing.read_capture.Goals as goal
 pub returns-then-mr1_not_modelled-asked : goal.returns-then-mr1_not_modelled-asked
 returns-then-mr1_not_modelled-asked c =
     let x = c.args in
-    refused x.asked x.text.now x.name-a.now x.name-b.now x.log-a.now x.log-b.now 5 c.refuse.result refl
-    (five x.asked x.text.now x.name-a.now x.name-b.now x.log-a.now x.log-b.now (rw (← c.mr1_not_modelled.ensures) c.if-mr1_not_modelled-asked.true))
+    refused x.asked x.text.now x.name_a.now x.name_b.now x.log_a.now x.log_b.now 5 c.refuse.result refl
+    (five x.asked x.text.now x.name_a.now x.name_b.now x.log_a.now x.log_b.now (rw (← c.mr1_not_modelled.ensures) c.if-mr1_not_modelled-asked.true))
     c.refuse.ensures
 
 pub returns-then-found-ne0 : goal.returns-then-found-ne0
@@ -25,9 +25,9 @@ returns-then-found-ne0 c =
     let x = c.args in
     let found = c.scan-found.ensures.0 in
     let m : (mr1_not_modelled x.asked.mr1 || ltb 12 x.asked.code) ≡ false = rw (← c.mr1_not_modelled.ensures) c.if-mr1_not_modelled-asked.false in
-    let no : (scan_of x.text.now x.name-a.now x.name-b.now).number ≡ 0 → ⊥ = rw (← found) c.if-found-ne0.true in
-    refused x.asked x.text.now x.name-a.now x.name-b.now x.log-a.now x.log-b.now _ c.refuse-then-found-ne0.result (ne_eqb _ 0 no)
-    (by-text x.asked x.text.now x.name-a.now x.name-b.now x.log-a.now x.log-b.now m no)
+    let no : (scan_of x.text.now x.name_a.now x.name_b.now).number ≡ 0 → ⊥ = rw (← found) c.if-found-ne0.true in
+    refused x.asked x.text.now x.name_a.now x.name_b.now x.log_a.now x.log_b.now _ c.refuse-then-found-ne0.result (ne_eqb _ 0 no)
+    (by-text x.asked x.text.now x.name_a.now x.name_b.now x.log_a.now x.log_b.now m no)
     (c.refuse-then-found-ne0.ensures ∙ rw found)
 
 pub hear_wire-length_a-requires : goal.hear_wire-length_a-requires
@@ -47,10 +47,10 @@ returns-then-log_a-length_a c =
     let start = mode in
     let x = start.args in
     let text = x.text.now in
-    let a = x.name-a.now in
-    let b = x.name-b.now in
-    let la = x.log-a.now in
-    let lb = x.log-b.now in
+    let a = x.name_a.now in
+    let b = x.name_b.now in
+    let la = x.log_a.now in
+    let lb = x.log_b.now in
     let found = read.scan-found.ensures.0 in
     let m : (mr1_not_modelled x.asked.mr1 || ltb 12 x.asked.code) ≡ false = rw (← mode.mr1_not_modelled.ensures) mode.if-mr1_not_modelled-asked.false in
     let inside : (scan_of text a b).number ≡ 0 = rw (← found) test.if-found-ne0.false in
@@ -81,10 +81,10 @@ returns c =
     let start = mode in
     let x = start.args in
     let text = x.text.now in
-    let a = x.name-a.now in
-    let b = x.name-b.now in
-    let la = x.log-a.now in
-    let lb = x.log-b.now in
+    let a = x.name_a.now in
+    let b = x.name_b.now in
+    let la = x.log_a.now in
+    let lb = x.log_b.now in
     let found = read.scan-found.ensures.0 in
     let m : (mr1_not_modelled x.asked.mr1 || ltb 12 x.asked.code) ≡ false = rw (← mode.mr1_not_modelled.ensures) mode.if-mr1_not_modelled-asked.false in
     let inside : (scan_of text a b).number ≡ 0 = rw (← found) test.if-found-ne0.false in

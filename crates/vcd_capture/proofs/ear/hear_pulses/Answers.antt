@@ -26,7 +26,7 @@ loop-left-preserved c =
     let a = at.args in
     let h = one.hop-hopped.ensures in
     let r = one.hop-hopped.result in
-    let turn = hop-turn a.level a.setting at.loop-left.now-sampler at.loop-left.left r h in
+    let turn = hop-turn a.level a.setting at.loop-left.now_sampler at.loop-left.left r h in
     let later = arrivals r.sampler (pulses_at (at.loop-left.left - r.pulses) a.level a.setting) in
     let p = take.take_came-next.ensures in
     let w = came_within r.came in
@@ -48,6 +48,6 @@ returns c =
     let a = at.args in
     let e : at.loop-left.left ≡ 0 = omega arith in
     record {
-      sampler = sym (no_after at.loop-left.now-sampler a.level a.setting) ∙ rw e at at.loop-left.invariant.3;
-      puts = left_none (left_as (rw e (no_arrivals at.loop-left.now-sampler a.level a.setting)) at.loop-left.invariant.4);
+      sampler = sym (no_after at.loop-left.now_sampler a.level a.setting) ∙ rw e at at.loop-left.invariant.3;
+      puts = left_none (left_as (rw e (no_arrivals at.loop-left.now_sampler a.level a.setting)) at.loop-left.invariant.4);
     }

@@ -41,10 +41,6 @@ loop-i-init c =
       },
     )
 
-pub record_at-event-requires : goal.record_at-event-requires
-
-pub record_at-event-requires : goal.record_at-event-requires
-
 pub put_changes-requires : goal.put_changes-requires
 put_changes-requires c =
     let loop = c in

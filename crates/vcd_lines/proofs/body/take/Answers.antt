@@ -14,19 +14,19 @@ returns-in-1 c = simp (c.first_digit.ensures, c.in-0.keys2)
 
 pub returns-in-2 : goal.returns-in-2
 unfolding taken_of pick
-returns-in-2 c = simp (c.next_digit.ensures, c.in-0.keys3)
+returns-in-2 c = simp (c.next_digit.ensures, c.in-2.keys3)
 
 pub returns-in-3 : goal.returns-in-3
 unfolding taken_of pick
-returns-in-3 c = simp (c.must_end.ensures, c.end_time.ensures, c.in-0.keys4)
+returns-in-3 c = simp (c.must_end.ensures, c.end_time.ensures, c.in-3.keys4)
 
 pub returns-in-4 : goal.returns-in-4
 unfolding taken_of pick
-returns-in-4 c = simp (c.take_code.ensures, c.in-0.keys5)
+returns-in-4 c = simp (c.take_code.ensures, c.in-4.keys5)
 
 pub returns-in-5 : goal.returns-in-5
 unfolding taken_of pick
-returns-in-5 c = simp (c.must_end-in-5.ensures, c.place_at.ensures, c.in-0.keys6)
+returns-in-5 c = simp (c.must_end-in-5.ensures, c.place_at.ensures, c.in-5.keys6)
 
 pub returns-in_default : goal.returns-in_default
 unfolding taken_of pick

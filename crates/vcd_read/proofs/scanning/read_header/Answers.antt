@@ -19,7 +19,7 @@ unfolding bytes_of line_of
 returns-then-not-starts_at c =
     let x = c.args in
     let text = x.text.now in
-    (c.no_Header.ensures ∙ not_opened text x.name-a.now x.name-b.now (sym c.starts_at.ensures ∙ not-true _ c.if-not-starts_at.true), rw c.no_Header.ensures (omega arith))
+    (c.no_Header.ensures ∙ not_opened text x.name_a.now x.name_b.now (sym c.starts_at.ensures ∙ not-true _ c.if-not-starts_at.true), rw c.no_Header.ensures (omega arith))
 
 pub wires_at-wires-requires : goal.wires_at-wires-requires
 unfolding bytes_of line_of
@@ -38,7 +38,7 @@ returns-then-not-wires c =
     let w = many.wires_at-wires.ensures.0 in
     let n = ap (λ (r : Wires). r.count) w in
     let e = ap (λ (r : Wires). r.end) w in
-    (c.no_header-then-not-wires.ensures ∙ not-sixteen text x.name-a.now x.name-b.now o (rw (← n) (not-true _ many.if-not-wires.true)), rw c.no_header-then-not-wires.ensures (omega arith))
+    (c.no_header-then-not-wires.ensures ∙ not-sixteen text x.name_a.now x.name_b.now o (rw (← n) (not-true _ many.if-not-wires.true)), rw c.no_header-then-not-wires.ensures (omega arith))
 
 pub twice-requires : goal.twice-requires
 unfolding bytes_of line_of
@@ -58,7 +58,7 @@ returns-then-twice c =
     let n = ap (λ (r : Wires). r.count) w in
     let e = ap (λ (r : Wires). r.end) w in
     let s : (ltb 0 (length (wires_in text)) && ltb (length (wires_in text)) 17) ≡ true = rw (← n) (not-false _ many.if-not-wires.false) in
-    (c.no_header-then-twice.ensures ∙ not-once text x.name-a.now x.name-b.now o s (sym c.twice.ensures ∙ c.if-twice.true), rw c.no_header-then-twice.ensures (omega arith))
+    (c.no_header-then-twice.ensures ∙ not-once text x.name_a.now x.name_b.now o s (sym c.twice.ensures ∙ c.if-twice.true), rw c.no_header-then-twice.ensures (omega arith))
 
 pub returns-then-not-starts_at-2 : goal.returns-then-not-starts_at-2
 unfolding bytes_of line_of
@@ -74,7 +74,7 @@ returns-then-not-starts_at-2 c =
     let e = ap (λ (r : Wires). r.end) w in
     let s : (ltb 0 (length (wires_in text)) && ltb (length (wires_in text)) 17) ≡ true = rw (← n) (not-false _ many.if-not-wires.false) in
     let t = sym once.twice.ensures ∙ once.if-twice.false in
-    (c.no_header-then-not-starts_at-2.ensures ∙ not-closed text x.name-a.now x.name-b.now o s t (rw (← e) (sym c.starts_at-2.ensures ∙ not-true _ c.if-not-starts_at-2.true)), rw c.no_header-then-not-starts_at-2.ensures (omega arith))
+    (c.no_header-then-not-starts_at-2.ensures ∙ not-closed text x.name_a.now x.name_b.now o s t (rw (← e) (sym c.starts_at-2.ensures ∙ not-true _ c.if-not-starts_at-2.true)), rw c.no_header-then-not-starts_at-2.ensures (omega arith))
 
 pub code_named-code_a-requires : goal.code_named-code_a-requires
 unfolding bytes_of line_of
@@ -104,7 +104,7 @@ returns-then-code_a-code_b c =
     let s : (ltb 0 (length (wires_in text)) && ltb (length (wires_in text)) 17) ≡ true = rw (← n) (not-false _ many.if-not-wires.false) in
     let t = sym once.twice.ensures ∙ once.if-twice.false in
     let q : starts close_words (drop (wires_over text) text) ≡ true = rw (← e) (sym close.starts_at-2.ensures ∙ not-false _ close.if-not-starts_at-2.false) in
-    (c.no_header-then-code_a-code_b.ensures ∙ not_named text x.name-a.now x.name-b.now o s t q (rw (← c.code_named-code_a.ensures, ← c.code_named-code_b.ensures) c.if-code_a-code_b.true), rw c.no_header-then-code_a-code_b.ensures (omega arith))
+    (c.no_header-then-code_a-code_b.ensures ∙ not_named text x.name_a.now x.name_b.now o s t q (rw (← c.code_named-code_a.ensures, ← c.code_named-code_b.ensures) c.if-code_a-code_b.true), rw c.no_header-then-code_a-code_b.ensures (omega arith))
 
 pub returns : goal.returns
 unfolding bytes_of line_of
@@ -122,5 +122,5 @@ returns c =
     let s : (ltb 0 (length (wires_in text)) && ltb (length (wires_in text)) 17) ≡ true = rw (← n) (not-false _ many.if-not-wires.false) in
     let t = sym once.twice.ensures ∙ once.if-twice.false in
     let q : starts close_words (drop (wires_over text) text) ≡ true = rw (← e) (sym close.starts_at-2.ensures ∙ not-false _ close.if-not-starts_at-2.false) in
-    let there = all_there text x.name-a.now x.name-b.now o s t q (rw (← c.code_named-code_a.ensures, ← c.code_named-code_b.ensures) c.if-code_a-code_b.false) in
+    let there = all_there text x.name_a.now x.name_b.now o s t q (rw (← c.code_named-code_a.ensures, ← c.code_named-code_b.ensures) c.if-code_a-code_b.false) in
     (rw (e, c.code_named-code_a.ensures, c.code_named-code_b.ensures) there, closed text _ (sym close.starts_at-2.ensures ∙ not-false _ close.if-not-starts_at-2.false) many.wires_at-wires.ensures.1)
