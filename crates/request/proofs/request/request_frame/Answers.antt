@@ -14,13 +14,13 @@ unfolding request_of
 write_levels-requires c =
     let a = c.args in
     let answered : c.answer_of-answer.result ≡ request_of a.mr1 a.mr2 (length a.space.now) =
-        simp (
-          c.answer_of-answer.ensures,
-          c.first_refusal.ensures,
-          c.frame_length-pulses.ensures,
-          c.mr2_not_modelled.ensures,
-          c.mr1_not_modelled.ensures,
-        ) in
+    simp (
+      c.answer_of-answer.ensures,
+      c.first_refusal.ensures,
+      c.frame_length-pulses.ensures,
+      c.mr2_not_modelled.ensures,
+      c.mr1_not_modelled.ensures,
+    ) in
     let e = ap (λ (r : FrameAnswer). r.length.0) answered in
     let w = request_within a.mr1 a.mr2 (length a.space.now) in
     omega arith
@@ -30,13 +30,13 @@ unfolding request_of
 returns c =
     let a = c.args in
     let answered : c.answer_of-answer.result ≡ request_of a.mr1 a.mr2 (length a.space.now) =
-        simp (
-          c.answer_of-answer.ensures,
-          c.first_refusal.ensures,
-          c.frame_length-pulses.ensures,
-          c.mr2_not_modelled.ensures,
-          c.mr1_not_modelled.ensures,
-        ) in
+    simp (
+      c.answer_of-answer.ensures,
+      c.first_refusal.ensures,
+      c.frame_length-pulses.ensures,
+      c.mr2_not_modelled.ensures,
+      c.mr1_not_modelled.ensures,
+    ) in
     record {
       answer = answered;
       space = rw (c.write_levels.ensures, answered) (over_asked a.mr1 a.mr2 a.byte a.space.now);

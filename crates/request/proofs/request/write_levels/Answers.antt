@@ -23,8 +23,8 @@ loop-i-preserved c =
     let a = start.args in
     let n = open_length a.mr1 a.byte a.pulses.0 in
     let level_is : c.level_byte.result ≡ get_or (open_levels a.mr1 a.byte a.pulses.0) c.loop-i.i 1 =
-        rw (c.level_byte.ensures, c.level_of.ensures, c.frame_bits-bits.ensures)
-        (sym (open_at a.mr1 a.byte a.pulses.0 c.loop-i.i)) in (
+    rw (c.level_byte.ensures, c.level_of.ensures, c.frame_bits-bits.ensures)
+    (sym (open_at a.mr1 a.byte a.pulses.0 c.loop-i.i)) in (
       omega arith,
       rw (level_is, at.loop-i.invariant.1, add-one)
           (over_more (open_levels a.mr1 a.byte a.pulses.0) a.space.now at.loop-i.i (omega (arith, start.requires)) (omega arith)),
