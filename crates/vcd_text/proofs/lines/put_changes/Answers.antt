@@ -18,13 +18,13 @@ returns-then-tick-eq0 c =
     let values = c in
     let time = values in
     let a = time.args in
-    puts_as (first_changes a.tick a a.values time.if-tick-eq0.true)
+    puts_as (first_changes a.tick a.before a.values time.if-tick-eq0.true)
     (puts_then time.put_time-begun.ensures values.put_values.ensures)
 
 pub returns-then-before-values : goal.returns-then-before-values
 returns-then-before-values c =
     let a = c.args in
-    puts_as (sym (no_changes a.tick a a.values c.if-tick-eq0.false c.if-before-values.true)) (puts_none a.at a.space.now)
+    puts_as (sym (no_changes a.tick a.before a.values c.if-tick-eq0.false c.if-before-values.true)) (puts_none a.at a.space.now)
 
 pub put_values-requires-2 : goal.put_values-requires-2
 put_values-requires-2 c =
@@ -40,5 +40,5 @@ returns c =
     let start = test in
     let a = start.args in
     puts_as
-    (some_changes a.tick a a.values test.if-tick-eq0.false test.if-before-values.false start.requires.1 start.requires.2)
+    (some_changes a.tick a.before a.values test.if-tick-eq0.false test.if-before-values.false start.requires.1 start.requires.2)
     (puts_then time.put_time-begun-2.ensures values.put_values-2.ensures)
