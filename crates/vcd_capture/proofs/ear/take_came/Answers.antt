@@ -15,5 +15,4 @@ returns-in-NoCharacter c =
 
 pub returns-in-Arrival : goal.returns-in-Arrival
 returns-in-Arrival c =
-    let put = c in
-    puts_as (sym (ap (λ (x : Came). log_bytes (list_of x)) put.came.given.1 ∙ log_one _)) put.put_character.ensures
+    puts_as (sym (ap (λ (x : Came). log_bytes (list_of x)) c.came.given.1 ∙ log_one _)) c.put_character.ensures
