@@ -16,16 +16,16 @@ unfolding ear_said heard_said
 returns-in-NoLine c =
     let a = c.args in
     record {
-      ear = rw c.enum_told.given.1;
-      puts = puts_as (rw c.enum_told.given.1 (sym log_none)) (puts_none a.at a.log.now);
+      ear = rw c.in-NoLine.is;
+      puts = puts_as (rw c.in-NoLine.is (sym log_none)) (puts_none a.at a.log.now);
     }
 
 pub returns-in-TimeLine : goal.returns-in-TimeLine
 unfolding ear_said heard_said
 returns-in-TimeLine c =
     record {
-      ear = rw c.said.given.1 c.hear_until.ensures.ear;
-      puts = puts_as (rw c.said.given.1) c.hear_until.ensures.puts;
+      ear = rw c.in-TimeLine.is c.hear_until.ensures.ear;
+      puts = puts_as (rw c.in-TimeLine.is) c.hear_until.ensures.puts;
     }
 
 pub returns-in-ValueLine : goal.returns-in-ValueLine
@@ -33,6 +33,6 @@ unfolding ear_said heard_said
 returns-in-ValueLine c =
     let a = c.args in
     record {
-      ear = c.hear_value.ensures ∙ rw c.said2.given.1;
-      puts = puts_as (rw c.said2.given.1 (sym log_none)) (puts_none a.at a.log.now);
+      ear = c.hear_value.ensures ∙ rw c.in-ValueLine.is;
+      puts = puts_as (rw c.in-ValueLine.is (sym log_none)) (puts_none a.at a.log.now);
     }

@@ -11,12 +11,6 @@ use Rattle.vcd_read.proofs.checking.check_from.Goals as goal
 pub loop-i-init : goal.loop-i-init
 loop-i-init c = (omega arith, rw c.start.ensures)
 
-pub overflow_cast-known : goal.overflow_cast-known
-overflow_cast-known c = omega (arith, c.shared_slice_known2.given c.loop-i.i)
-
-pub bounds-codes-byte : goal.bounds-codes-byte
-bounds-codes-byte c = omega (arith, c.shared_slice_known2.given c.loop-i.i)
-
 pub loop-i-preserved : goal.loop-i-preserved
 loop-i-preserved c =
     let a = c.args in

@@ -7,7 +7,6 @@ use native.Mathlib.Omega.{arith}
 use lib.Dec.{eqb}
 use lib.ListN.{length, drop, get_or, length-drop}
 use lib.Seq.{get_or-drop, drop-drop}
-use borrow.Author.Tests.{not-true, not-false}
 use Rattle.text.specs.Bytes.{bytes_of}
 use Rattle.vcd_text.specs.Header.{line_of}
 use Rattle.vcd_read.specs.Wires.{starts, visible, name_of, end_words, name_here}
@@ -41,7 +40,7 @@ unfolding bytes_of line_of
 returns-then-not-starts_at c =
     let a = c.args in
     let text = drop a.at a.text.now in
-    c.no_wire.ensures ∙ sym (other_words text a.at (sym c.starts_at.ensures ∙ not-true _ c.if-not-starts_at.true))
+    c.no_wire.ensures ∙ sym (other_words text a.at (sym c.starts_at.ensures ∙ c.if-not-starts_at.true))
 
 pub returns-then-text-at-lt14 : goal.returns-then-text-at-lt14
 returns-then-text-at-lt14 c =
@@ -52,13 +51,13 @@ returns-then-text-at-lt14 c =
 pub returns-then-not-is_visible-blank : goal.returns-then-not-is_visible-blank
 returns-then-not-is_visible-blank c =
     let a = c.args in
-    c.no_wire-then-not-is_visible-blank.ensures ∙ sym (no_code (drop a.at a.text.now) a.at (code_is a.text.now a.at _ false c.is_visible.ensures (not-true _ c.if-not-is_visible-blank.true)))
+    c.no_wire-then-not-is_visible-blank.ensures ∙ sym (no_code (drop a.at a.text.now) a.at (code_is a.text.now a.at _ false c.is_visible.ensures c.if-not-is_visible-blank.true))
 
 pub returns-then-not-is_named : goal.returns-then-not-is_named
 returns-then-not-is_named c =
     let a = c.args in
     let e = name_is a.text.now a.at _ c.name_length-length.ensures in
-    c.no_wire-then-not-is_named.ensures ∙ sym (no_name (drop a.at a.text.now) a.at (rw e (sym c.is_named.ensures ∙ not-true _ c.if-not-is_named.true)))
+    c.no_wire-then-not-is_named.ensures ∙ sym (no_name (drop a.at a.text.now) a.at (rw e (sym c.is_named.ensures ∙ c.if-not-is_named.true)))
 
 pub overflow_add-at-3 : goal.overflow_add-at-3
 overflow_add-at-3 c =
@@ -78,13 +77,13 @@ returns-then-not-starts_at-2 c =
     let e = name_is a.text.now a.at _ c.name_length-length.ensures in
     c.no_wire-then-not-starts_at-2.ensures
     ∙ sym (no_end (drop a.at a.text.now) a.at
-    (rw e (end_is a.text.now a.at c.name_length-length.result false (sym c.starts_at-2.ensures ∙ not-true _ c.if-not-starts_at-2.true))))
+    (rw e (end_is a.text.now a.at c.name_length-length.result false (sym c.starts_at-2.ensures ∙ c.if-not-starts_at-2.true))))
 
 pub overflow_add-result : goal.overflow_add-result
 unfolding bytes_of line_of
 overflow_add-result c =
     let a = c.args in
-    let h = sym c.starts_at-2.ensures ∙ not-false _ c.if-not-starts_at-2.false in
+    let h = sym c.starts_at-2.ensures ∙ c.if-not-starts_at-2.false in
     let b = line_within a.text.now a.at c.name_length-length.result h in
     omega arith
 
@@ -96,8 +95,8 @@ returns c =
     let e = name_is a.text.now a.at _ c.name_length-length.ensures in
     sym (wire_here_lem text a.at
     (wire_is text
-    (sym c.starts_at.ensures ∙ not-false _ c.if-not-starts_at.false)
-    (code_is a.text.now a.at _ true c.is_visible.ensures (not-false _ c.if-not-is_visible-blank.false))
-    (rw e (sym c.is_named.ensures ∙ not-false _ c.if-not-is_named.false))
-    (rw e (end_is a.text.now a.at c.name_length-length.result true (sym c.starts_at-2.ensures ∙ not-false _ c.if-not-starts_at-2.false))))
+    (sym c.starts_at.ensures ∙ c.if-not-starts_at.false)
+    (code_is a.text.now a.at _ true c.is_visible.ensures c.if-not-is_visible-blank.false)
+    (rw e (sym c.is_named.ensures ∙ c.if-not-is_named.false))
+    (rw e (end_is a.text.now a.at c.name_length-length.result true (sym c.starts_at-2.ensures ∙ c.if-not-starts_at-2.false))))
     ∙ rw (e, get_or-drop a.at a.text.now 12 0))
