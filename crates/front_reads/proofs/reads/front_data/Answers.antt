@@ -1,22 +1,9 @@
 -- `front_data` meets its contract: one arm a register, each the definition's. Assumes nothing.
-use Prim.{tt}
 use borrow.Author.Rules.{rules}
 use Rattle.format.proofs.Laws.{steps}
 use Rattle.format.specs.Pick.{pick}
 use Rattle.front_reads.specs.Reads.{front_data}
 use Rattle.front_reads.proofs.reads.front_data.Goals as goal
-
-pub mode_register-requires : goal.mode_register-requires
-mode_register-requires c = tt
-
-pub change_register-requires : goal.change_register-requires
-change_register-requires c = tt
-
-pub mode_register-requires-in-8 : goal.mode_register-requires-in-8
-mode_register-requires-in-8 c = tt
-
-pub input_port-requires : goal.input_port-requires
-input_port-requires c = tt
 
 pub returns-in-0 : goal.returns-in-0
 unfolding front_data pick

@@ -1,18 +1,8 @@
 -- `read_shared` meets its contract: one arm a register, each the definition's. Assumes nothing.
-use Prim.{tt}
 use Rattle.format.proofs.Laws.{steps}
 use Rattle.format.specs.Pick.{pick}
 use Rattle.front_reads.specs.Reads.{shared_read}
 use Rattle.front_reads.proofs.reads.read_shared.Goals as goal
-
-pub read_flags-requires : goal.read_flags-requires
-read_flags-requires c = tt
-
-pub start-requires : goal.start-requires
-start-requires c = tt
-
-pub stop-requires : goal.stop-requires
-stop-requires c = tt
 
 pub returns-in-4 : goal.returns-in-4
 unfolding shared_read pick

@@ -1,18 +1,8 @@
 -- `read_side` meets its contract: one arm a register, each the definition's. Assumes nothing.
-use Prim.{tt}
 use Rattle.format.proofs.Laws.{steps}
 use Rattle.format.specs.Pick.{pick}
 use Rattle.front_reads.specs.Reads.{side_read}
 use Rattle.front_reads.proofs.reads.read_side.Goals as goal
-
-pub read_mode-requires : goal.read_mode-requires
-read_mode-requires c = tt
-
-pub hand_side-requires : goal.hand_side-requires
-hand_side-requires c = tt
-
-pub hand_side-requires-in_default : goal.hand_side-requires-in_default
-hand_side-requires-in_default c = tt
 
 pub returns-in-0 : goal.returns-in-0
 unfolding side_read pick

@@ -1,48 +1,8 @@
 -- `write_shared` meets its contract: one arm a register, each the definition's. Assumes nothing.
-use Prim.{tt}
 use Rattle.format.proofs.Laws.{steps}
 use Rattle.format.specs.Pick.{pick}
 use Rattle.front_writes.specs.Writes.{shared_written}
 use Rattle.front_writes.proofs.writes.write_shared.Goals as goal
-
-pub write_acr-requires : goal.write_acr-requires
-write_acr-requires c = tt
-
-pub write_imr-requires : goal.write_imr-requires
-write_imr-requires c = tt
-
-pub preload_high-requires : goal.preload_high-requires
-preload_high-requires c = tt
-
-pub write_preload-requires : goal.write_preload-requires
-write_preload-requires c = tt
-
-pub preload_low-requires : goal.preload_low-requires
-preload_low-requires c = tt
-
-pub write_preload-requires-in-7 : goal.write_preload-requires-in-7
-write_preload-requires-in-7 c = tt
-
-pub write_ivr-requires : goal.write_ivr-requires
-write_ivr-requires c = tt
-
-pub choose_outputs-requires : goal.choose_outputs-requires
-choose_outputs-requires c = tt
-
-pub write_outputs-requires : goal.write_outputs-requires
-write_outputs-requires c = tt
-
-pub set_bits-requires : goal.set_bits-requires
-set_bits-requires c = tt
-
-pub write_outputs-requires-in-14 : goal.write_outputs-requires-in-14
-write_outputs-requires-in-14 c = tt
-
-pub reset_bits-requires : goal.reset_bits-requires
-reset_bits-requires c = tt
-
-pub write_outputs-requires-in-15 : goal.write_outputs-requires-in-15
-write_outputs-requires-in-15 c = tt
 
 pub returns-in-4 : goal.returns-in-4
 unfolding shared_written pick
