@@ -4,4 +4,4 @@ use Rattle.front_clocks.proofs.clocking.clock_with.Goals as goal
 
 pub returns : goal.returns
 unfolding clocked_with
-returns c = simp (c.step_by_transmitter-counter.ensures, c.Mode-of.ensures)
+returns c = simp (c.step_by_transmitter-counter.ensures, c.mode_of.ensures)

@@ -5,7 +5,7 @@ use Rattle.front_clocks.proofs.clocking.count.Goals as goal
 
 pub returns-then-tick : goal.returns-then-tick
 unfolding counted_of
-returns-then-tick c = simp (c.step_by_tick.ensures, c.Mode-of.ensures) (search steps)
+returns-then-tick c = simp (c.step_by_tick.ensures, c.mode_of.ensures) (search steps)
 
 pub returns-then-rises : goal.returns-then-rises
 unfolding counted_of

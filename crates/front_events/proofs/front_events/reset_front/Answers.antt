@@ -2,4 +2,4 @@
 use Rattle.front_events.proofs.front_events.reset_front.Goals as goal
 
 pub returns : goal.returns
-returns c = simp c.Front-at.ensures
+returns c = simp c.front_at.ensures

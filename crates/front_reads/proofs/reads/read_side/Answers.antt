@@ -6,11 +6,11 @@ use Rattle.front_reads.proofs.reads.read_side.Goals as goal
 
 pub returns-in-0 : goal.returns-in-0
 unfolding side_read pick
-returns-in-0 c = simp (c.read_mode.ensures, c.in-0.keys1)
+returns-in-0 c = simp (c.read_mode.ensures, c.in-0.is)
 
 pub returns-in-3 : goal.returns-in-3
 unfolding side_read pick
-returns-in-3 c = simp (c.hand_side.ensures, c.in-3.keys2)
+returns-in-3 c = simp (c.hand_side.ensures, c.in-3.is)
 
 pub returns-in_default : goal.returns-in_default
 unfolding side_read

@@ -2,4 +2,4 @@
 use Rattle.front_reads.proofs.reads.start.Goals as goal
 
 pub returns : goal.returns
-returns c = simp (c.start_counter-timer.ensures, c.Mode-of.ensures)
+returns c = simp (c.start_counter-timer.ensures, c.mode_of.ensures)

@@ -6,15 +6,15 @@ use Rattle.front_writes.proofs.writes.write_side.Goals as goal
 
 pub returns-in-0 : goal.returns-in-0
 unfolding side_written pick
-returns-in-0 c = simp (c.hand_side.ensures, c.mode_feed.ensures, c.set_mode.ensures, c.in-0.keys1)
+returns-in-0 c = simp (c.hand_side.ensures, c.mode_feed.ensures, c.set_mode.ensures, c.in-0.is)
 
 pub returns-in-1 : goal.returns-in-1
 unfolding side_written pick
-returns-in-1 c = simp (c.hand_side2.ensures, c.write_csr.ensures, c.in-0.keys2)
+returns-in-1 c = simp (c.hand_side-in-1.ensures, c.write_csr.ensures, c.in-1.is)
 
 pub returns-in-2 : goal.returns-in-2
 unfolding side_written pick
-returns-in-2 c = simp (c.command.ensures, c.in-2.keys3)
+returns-in-2 c = simp (c.command.ensures, c.in-2.is)
 
 pub returns-in_default : goal.returns-in_default
 unfolding side_written
