@@ -18,9 +18,6 @@ on c = sym c.loop-over.invariant.0 ∙ unless _ c.loop-over-test.true
 within : (c : tie.After-hop invariant-loop decreases-loop) → suc c.hop-hopped.result.still.0 ≤ c.loop-over.left
 within c = (hop_within _ _ _ (not_over _ _ _ (on c)).0 c.hop-hopped.ensures).1
 
-pub is_over-over-requires : goal.is_over-over-requires
-is_over-over-requires c = tt
-
 pub loop-over-init : goal.loop-over-init
 loop-over-init c = (c.is_over-over.ensures, starts _ _ _ c.requires)
 
@@ -28,9 +25,6 @@ pub overflow_sub-left : goal.overflow_sub-left
 overflow_sub-left c =
     let some = (not_over _ _ _ (on c)).0 in
     omega (arith, some)
-
-pub hop-hopped-requires : goal.hop-hopped-requires
-hop-hopped-requires c = tt
 
 pub overflow_add-left : goal.overflow_add-left
 overflow_add-left c =

@@ -8,17 +8,8 @@ use Rattle.chip_fast.proofs.Laws.Ticked.{unless, until}
 use Rattle.chip_ticks.proofs.Laws.{spent_most, run_unsound, run_over, run_within}
 use Rattle.chip_ticks.proofs.until_irq.run.Goals as goal
 
-pub is_sound-requires : goal.is_sound-requires
-is_sound-requires c = tt
-
-pub no_lines-requires : goal.no_lines-requires
-no_lines-requires c = tt
-
 pub returns-then-not-is_sound : goal.returns-then-not-is_sound
 returns-then-not-is_sound c = simp c.no_lines.ensures (run_unsound _ _ (sym c.is_sound.ensures ∙ unless _ c.if-not-is_sound.true))
-
-pub device_lines-requires : goal.device_lines-requires
-device_lines-requires c = tt
 
 pub returns-then-budget-gt-MOST_TICKS : goal.returns-then-budget-gt-MOST_TICKS
 returns-then-budget-gt-MOST_TICKS c =
@@ -33,9 +24,6 @@ overflow_cast-result c =
     let most : c.spend-spent.result.ticks ≤ c.args.budget = rw c.spend-spent.ensures (spent_most true _ _) in
     let within = c.if-budget-gt-MOST_TICKS.false in
     record { fits = omega (arith, most, within) }
-
-pub device_lines-requires-2 : goal.device_lines-requires-2
-device_lines-requires-2 c = tt
 
 pub returns : goal.returns
 returns c =
