@@ -6,7 +6,7 @@ use native.Mathlib.Omega.{arith}
 use lib.Bits.{bit_and}
 use lib.Dec.{eqb}
 use Rattle.format.specs.Pick.{pick}
-use Rattle.bytes.specs.Bytes.{weight_of, byte_of}
+use Rattle.byte_bits.specs.Bytes.{weight_of, byte_of}
 use Rattle.events.specs.declared.events.Event.TheVariants.{Tick}
 use Rattle.front.specs.declared.front.Front.{Front}
 use Rattle.front.specs.Front.{front_at}

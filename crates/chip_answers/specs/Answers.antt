@@ -3,7 +3,7 @@
 use Rattle.std.specs.Prelude.{ℕ, Bool, false, not, eqb}
 use Rattle.std.specs.Int.Bits.{bit_and}
 use Rattle.format.specs.Pick.{pick}
-use Rattle.bytes.specs.Bytes.{has_bit}
+use Rattle.byte_bits.specs.Bytes.{has_bit}
 use Rattle.timer_state.specs.Counting.{mode_of, is_timer}
 use Rattle.events.specs.declared.events.Event.{Event}
 use Rattle.events.specs.declared.events.Event.TheVariants.{ChipReset, Read, Write, Acknowledge, Pins, Tick}

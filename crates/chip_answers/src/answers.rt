@@ -3,7 +3,7 @@ ghost use Rattle.std.specs.Prelude.{◌≡◌};
 ghost use Rattle.chip_answers.specs.Answers.{isr_of, share_a_bit, asserted_of, timer_level, lines_of, no_lines};
 ghost use Rattle.chip_answers.specs.Answers.{register_data, event_data, register_fresh, event_fresh};
 
-use bytes::has_bit;
+use byte_bits::has_bit;
 use chip_shown::{Shown, interrupt_status};
 use events::Event;
 use front::Front;

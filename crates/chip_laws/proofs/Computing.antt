@@ -2,7 +2,7 @@
 use mathlib.Core.Bool.{Bool, true}
 use Rattle.receiver.proofs.Computing as Receivers
 use Rattle.transmitter.proofs.Computing as Transmitters
-use Rattle.bytes.specs.Bytes.{has_bit, weight_of, byte_of}
+use Rattle.byte_bits.specs.Bytes.{has_bit, weight_of, byte_of}
 use Rattle.dividers.specs.Divider.{divided_of, sixteenth_of}
 use Rattle.dividers.specs.Rates.{period_of}
 use Rattle.clocks.specs.Channel.{restarted_on_change, ticked_of, side_of, transmitter1x}

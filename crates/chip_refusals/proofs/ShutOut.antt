@@ -6,7 +6,7 @@ use native.Mathlib.Omega.{arith}
 use lib.Dec.{eqb}
 use Rattle.format.specs.Format.{format_of}
 use Rattle.format.specs.Pick.{pick}
-use Rattle.bytes.specs.Bytes.{weight_of, byte_of}
+use Rattle.byte_bits.specs.Bytes.{weight_of, byte_of}
 use Rattle.timer_state.specs.Counting.{fresh_timer}
 use Rattle.front_side.specs.Side.{fresh_side, with_modes, mode_not_modelled}
 use Rattle.front_modes.specs.Modes.{sender_shown}

@@ -11,7 +11,7 @@ use Rattle.transmitter.specs.Status.{status_of}
 use Rattle.front_side.specs.declared.side.Side.{Side}
 use Rattle.front_side.specs.Side.{fresh_side, with_modes, with_transmitter}
 use Rattle.front_modes.specs.Modes.{sender_shown}
-use Rattle.bytes.specs.Bytes.{weight_of, byte_of}
+use Rattle.byte_bits.specs.Bytes.{weight_of, byte_of}
 use Rattle.chip_shown.specs.declared.shown.Shown.{Shown}
 use Rattle.chip_shown.specs.Shown.{status_register, received_of, shown_of, interrupt_status}
 

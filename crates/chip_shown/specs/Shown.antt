@@ -6,7 +6,7 @@ use Rattle.receiver_state.specs.declared.arrivals.Receiver.{Receiver}
 use Rattle.receiver_status.specs.declared.status.Status.{Status}
 use Rattle.receiver_status.specs.Status.{status_of}
 use Rattle.transmitter.specs.declared.status.TransmitterStatus.{TransmitterStatus}
-use Rattle.bytes.specs.Bytes.{byte_of}
+use Rattle.byte_bits.specs.Bytes.{byte_of}
 use Rattle.front_side.specs.declared.side.Side.{Side}
 use Rattle.front_modes.specs.Modes.{sender_shown}
 use Rattle.chip_shown.specs.declared.shown.Shown.{Shown}

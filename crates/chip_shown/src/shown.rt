@@ -2,7 +2,7 @@
 ghost use Rattle.std.specs.Prelude.{◌≡◌};
 ghost use Rattle.chip_shown.specs.Shown.{status_register, received_of, channel_shown, interrupt_status};
 
-use bytes::byte_of;
+use byte_bits::byte_of;
 use front_modes::show_sender;
 use front_side::Side;
 use receiver_state::Receiver;

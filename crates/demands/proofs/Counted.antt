@@ -10,7 +10,7 @@ use Rattle.timer_state.specs.Counting.{mode_of, is_timer, pulsed_by}
 use Rattle.timer.specs.Timer.{stopped_of, mode_changed}
 use Rattle.timer.specs.Modes.{timer_in}
 use Rattle.timer.proofs.Modes.{timer_mode}
-use Rattle.bytes.specs.Bytes.{has_bit}
+use Rattle.byte_bits.specs.Bytes.{has_bit}
 use Rattle.front.specs.declared.front.Front.{Front}
 use Rattle.front.specs.Front.{front_at}
 use Rattle.events.specs.declared.events.Event.{Event}

@@ -16,7 +16,7 @@ use Rattle.timer.specs.Counts.{pulses_of}
 use Rattle.timer.specs.Modes.{timer_in}
 use Rattle.timer.proofs.Modes.{timer_mode}
 use Rattle.timer.proofs.Counts.{obeys}
-use Rattle.bytes.specs.Bytes.{has_bit}
+use Rattle.byte_bits.specs.Bytes.{has_bit}
 use Rattle.outputs.specs.Outputs.{driven_op3}
 use Rattle.front.specs.declared.front.Front.{Front}
 use Rattle.front.specs.Front.{front_at}

@@ -10,7 +10,7 @@ use borrow.Author.Tests.{eqb-true}
 use Rattle.format.specs.Pick.{pick}
 use Rattle.format.proofs.Laws.Pick.{pick_yes, pick_no, pick_all}
 use Rattle.receiver_status.specs.declared.status.Status.{Status}
-use Rattle.bytes.specs.Bytes.{has_bit}
+use Rattle.byte_bits.specs.Bytes.{has_bit}
 use Rattle.transmitter_state.specs.declared.state.Transmitter.{Transmitter}
 use Rattle.transmitter_state.specs.State.{after_break, sending, idle_phase, with_holding}
 use Rattle.transmitter.specs.Commands.{written_of, break_ended, dropped_of, reset_of, enabled_of}

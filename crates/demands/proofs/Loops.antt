@@ -16,7 +16,7 @@ use Rattle.receiver.specs.Receiver.{fed_of}
 use Rattle.transmitter_state.specs.declared.state.Transmitter.{Transmitter}
 use Rattle.transmitter_state.specs.Sending.{taken_of, begun_of, sent_on_of, held_high, pulsed_of}
 use Rattle.transmitter.specs.Transmitter.{after_input}
-use Rattle.bytes.specs.Bytes.{has_bit}
+use Rattle.byte_bits.specs.Bytes.{has_bit}
 use Rattle.clocks.specs.Channel.{is_sixteen}
 use Rattle.clocks.specs.Pulses.Side.{receives, transmits}
 use Rattle.front_side.specs.declared.side.Side.{Side}

@@ -6,7 +6,7 @@ use mathlib.Core.List.{List}
 use native.Mathlib.Omega.{arith}
 use lib.Dec.{eqb}
 use Rattle.format.specs.Pick.{pick}
-use Rattle.bytes.specs.Bytes.{has_bit}
+use Rattle.byte_bits.specs.Bytes.{has_bit}
 use Rattle.outputs.specs.Outputs.{driven_by, driven_op3}
 use Rattle.timer_state.specs.Counting.{mode_of}
 use Rattle.timer.specs.Modes.{timer_in}

@@ -16,7 +16,7 @@ use Rattle.receiver_state.specs.declared.arrivals.Receiver.{Receiver}
 use Rattle.receiver_status.specs.Status.{shown_marks}
 use Rattle.receiver.specs.Delivery.{oldest_known}
 use Rattle.receiver.specs.Receiver.{read_of, fed_of}
-use Rattle.bytes.specs.Bytes.{has_bit}
+use Rattle.byte_bits.specs.Bytes.{has_bit}
 use Rattle.chip_shown.specs.Shown.{block_errors}
 use Rattle.front_reads.specs.Reads.{side_read, register_read}
 use Rattle.events.specs.declared.events.Event.{Event}

@@ -18,7 +18,7 @@ use Rattle.transmitter.specs.Transmitter.{after_input}
 use Rattle.transmitter.specs.Frames.{after, line, free, pulses_in}
 use Rattle.transmitter.proofs.Frames as Frames
 use Rattle.clocks.specs.Pulses.Side.{transmits}
-use Rattle.bytes.specs.Bytes.{has_bit}
+use Rattle.byte_bits.specs.Bytes.{has_bit}
 use Rattle.events.specs.declared.events.Event.{Event}
 use Rattle.events.specs.declared.events.Event.TheVariants.{ChipReset, Read, Write, Acknowledge, Pins, Tick}
 use Rattle.chip_step.specs.Chip.{step_of}

@@ -7,7 +7,7 @@ use Rattle.timer_state.specs.declared.counting.Timer.{Timer}
 use Rattle.timer_state.specs.Counting.{fresh_timer, with_preload, pulsed_by}
 use Rattle.timer.specs.Timer.{started_of, stopped_of, mode_changed}
 use Rattle.timer.specs.Modes.{timer_in}
-use Rattle.bytes.specs.Bytes.{has_bit}
+use Rattle.byte_bits.specs.Bytes.{has_bit}
 use Rattle.events.specs.declared.events.Event.{Event}
 use Rattle.events.specs.declared.events.Event.TheVariants.{ChipReset, Read, Write, Acknowledge, Pins, Tick}
 use Rattle.demands.specs.Chip.{Chip, and_then, over, shows, lines_after}

@@ -3,7 +3,7 @@
 use Rattle.std.specs.Prelude.{ℕ, suc, ◌+◌, ◌*◌, ◌-◌, ◌<◌, ◌/◌, ◌%◌, ◌≡◌, Bool, true, false, not, ◌&&◌, ◌||◌, List, [], ◌∷◌, ◌++◌, eqb, leb}
 use Rattle.format.specs.Pick.{pick}
 use Rattle.format.specs.Digits.{bit}
-use Rattle.bytes.specs.Bytes.{has_bit}
+use Rattle.byte_bits.specs.Bytes.{has_bit}
 use Rattle.inputs.specs.Inputs.{rises_of}
 use Rattle.timer.specs.Counts.{pulses_of}
 use Rattle.timer.specs.Modes.{Comes, pulse_in, timer_in, ones}

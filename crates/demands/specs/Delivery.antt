@@ -19,7 +19,7 @@ use Rattle.receiver.specs.Delivery.{fated_by}
 use Rattle.receiver.specs.Delivery.Fate.{WasRead, Held}
 use Rattle.clocks.specs.Channel.{is_sixteen}
 use Rattle.clocks.specs.Pulses.Side.{receives, transmits}
-use Rattle.bytes.specs.Bytes.{has_bit}
+use Rattle.byte_bits.specs.Bytes.{has_bit}
 use Rattle.events.specs.declared.events.Event.{Event}
 use Rattle.events.specs.declared.events.Event.TheVariants.{ChipReset, Read, Write, Acknowledge, Pins, Tick}
 use Rattle.demands.specs.Chip.{Chip, Channel, of_channel, register_of, and_then, shows, status_bit}

@@ -2,7 +2,7 @@
 -- break starts; at each pulse of an enabled receiver TxD takes the sampled level (high while disabled)"; "Remote
 -- loopback: .. no character is put together." Said of any way `step` to answer an event. Assumes nothing.
 use Rattle.std.specs.Prelude.{ℕ, ◌/◌, ◌%◌, ◌≡◌, Bool, true, false, ◌||◌, eqb}
-use Rattle.bytes.specs.Bytes.{has_bit}
+use Rattle.byte_bits.specs.Bytes.{has_bit}
 use Rattle.clocks.specs.Pulses.Side.{receives}
 use Rattle.front.specs.declared.front.Front.{Front}
 use Rattle.events.specs.Command.{command_forbidden}

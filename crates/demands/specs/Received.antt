@@ -9,7 +9,7 @@ use Rattle.sampler.specs.Lines.{Line, hears}
 use Rattle.receiver.specs.Delivery.{Entry, oldest_known}
 use Rattle.receiver.specs.Delivery.Entry.{entry}
 use Rattle.receiver.specs.Delivery.Fate.{Held, WasRead, Overrun, Dropped}
-use Rattle.bytes.specs.Bytes.{has_bit}
+use Rattle.byte_bits.specs.Bytes.{has_bit}
 use Rattle.events.specs.declared.events.Event.{Event}
 use Rattle.events.specs.declared.events.Event.TheVariants.{ChipReset, Read, Write, Acknowledge, Pins, Tick}
 use Rattle.demands.specs.Chip.{Chip, Channel, of_channel, register_of, and_then, shows, status_bit}

@@ -14,7 +14,7 @@ use Rattle.transmitter.specs.Status.{shifter_empty}
 use Rattle.transmitter.specs.Frames.{after, free, Startable, frame_at}
 use Rattle.clocks.specs.Channel.{is_sixteen}
 use Rattle.clocks.specs.Pulses.Side.{receives, transmits}
-use Rattle.bytes.specs.Bytes.{has_bit}
+use Rattle.byte_bits.specs.Bytes.{has_bit}
 use Rattle.chip_answers.specs.declared.answers.Lines.{Lines}
 use Rattle.events.specs.declared.events.Event.{Event}
 use Rattle.events.specs.declared.events.Event.TheVariants.{ChipReset, Read, Write, Acknowledge, Pins, Tick}

@@ -23,7 +23,7 @@ use Rattle.receiver.specs.Delivery.{Ledger, Fate, fated_by}
 use Rattle.receiver.specs.Delivery.Fate.{WasRead, Held}
 use Rattle.receiver.specs.ReadBack.{Idle}
 use Rattle.clocks.specs.Pulses.Side.{receives}
-use Rattle.bytes.specs.Bytes.{has_bit}
+use Rattle.byte_bits.specs.Bytes.{has_bit}
 use Rattle.events.specs.declared.events.Event.{Event}
 use Rattle.events.specs.declared.events.Event.TheVariants.{Write, Pins}
 use Rattle.demands.specs.Chip.{Channel, of_channel, register_of, and_then, over, status_bit, each_of}

@@ -20,7 +20,7 @@ use Rattle.transmitter_state.specs.Sending.{clear_to_send}
 use Rattle.transmitter.specs.declared.transmitter.Input.TheVariants as Inputs
 use Rattle.transmitter.specs.Transmitter.{after_input}
 use Rattle.transmitter.specs.Frames.{after, Startable}
-use Rattle.bytes.specs.Bytes.{has_bit}
+use Rattle.byte_bits.specs.Bytes.{has_bit}
 use Rattle.events.specs.declared.events.Event.{Event}
 use Rattle.events.specs.declared.events.Event.TheVariants.{Write, Pins}
 use Rattle.demands.specs.Chip.{Channel, of_channel, register_of, and_then, over}

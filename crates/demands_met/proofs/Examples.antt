@@ -23,7 +23,7 @@ use Rattle.timer.specs.Modes.{timer_in}
 use Rattle.format.specs.Pick.{pick}
 use Rattle.queue.specs.Queue.{held_of}
 use Rattle.clocks.specs.Channel.{side_of}
-use Rattle.bytes.specs.Bytes.{has_bit}
+use Rattle.byte_bits.specs.Bytes.{has_bit}
 use Rattle.front.specs.Front.{front_at}
 use Rattle.chip_device.specs.Device.{fresh_device, is_sound_of}
 use Rattle.events.specs.Command.{command_forbidden}

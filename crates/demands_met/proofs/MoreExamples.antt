@@ -11,7 +11,7 @@ use Rattle.clocks.specs.Pulses.Side.{transmits}
 use Rattle.timer.specs.Modes.{timer_in}
 use Rattle.sampler_hunting.specs.Hunting.{waited}
 use Rattle.transmitter.specs.Frames.{free}
-use Rattle.bytes.specs.Bytes.{has_bit}
+use Rattle.byte_bits.specs.Bytes.{has_bit}
 use Rattle.demands.specs.Chip.{and_then, shows, status_bit}
 use Rattle.demands.specs.Chip.Channel.{A}
 use Rattle.demands.specs.Told.{levels_after, programmed}

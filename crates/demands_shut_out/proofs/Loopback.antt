@@ -10,7 +10,7 @@ use lib.ListN.{replicate}
 use Rattle.format.specs.Pick.{pick}
 use Rattle.format.specs.Format.{format_of}
 use Rattle.frame.specs.Levels.{frame}
-use Rattle.bytes.specs.Bytes.{has_bit}
+use Rattle.byte_bits.specs.Bytes.{has_bit}
 use Rattle.receiver_state.specs.declared.arrivals.Receiver.{Receiver}
 use Rattle.transmitter_state.specs.declared.state.Transmitter.{Transmitter}
 use Rattle.transmitter.specs.declared.transmitter.Input.TheVariants.{ModeChange}

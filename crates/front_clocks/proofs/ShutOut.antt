@@ -9,7 +9,7 @@ use Rattle.dividers.specs.Divider.{divided_of, sixteenth_of}
 use Rattle.clocks.specs.Channel as Channel
 use Rattle.timer_state.specs.Counting.{fresh_timer, with_count, pulsed_by, timer_pulsed}
 use Rattle.timer.specs.Timer.{ticked_by}
-use Rattle.bytes.specs.Bytes.{has_bit}
+use Rattle.byte_bits.specs.Bytes.{has_bit}
 use Rattle.inputs.specs.Inputs.{pins_of_a, pins_of_b}
 use Rattle.front_side.specs.declared.side.Side.{Side}
 use Rattle.front_side.specs.Side.{fresh_side, with_clocks}

@@ -7,7 +7,7 @@ use native.Mathlib.Omega.{arith}
 use lib.Bits.{bit_xor}
 use lib.Dec.{eqb}
 use lib.ListN.{get_or}
-use Rattle.bytes.specs.Bytes.{has_bit}
+use Rattle.byte_bits.specs.Bytes.{has_bit}
 use Rattle.format.specs.Pick.{pick}
 use Rattle.inputs.specs.declared.inputs.Inputs.{Inputs}
 use Rattle.inputs.specs.Inputs.{rises_of, falls_of, moved_of, changes_cleared, has_chosen_change, channel_pins}

@@ -1,7 +1,7 @@
 -- The input pins. Assumes nothing.
 use Rattle.std.specs.Prelude.{ℕ, ◌+◌, ◌*◌, ◌%◌, Bool, not, ◌&&◌, eqb}
 use Rattle.std.specs.Int.Bits.{bit_and, bit_or, bit_xor}
-use Rattle.bytes.specs.Bytes.{has_bit}
+use Rattle.byte_bits.specs.Bytes.{has_bit}
 use Rattle.inputs.specs.declared.inputs.ChannelPins.{ChannelPins}
 use Rattle.inputs.specs.declared.inputs.Inputs.{Inputs}
 

@@ -3,7 +3,7 @@ ghost use Rattle.std.specs.Prelude.{◌≡◌};
 ghost use Rattle.inputs.specs.Inputs.{rises_of, falls_of, moved_of, input_port, change_register, changes_cleared};
 ghost use Rattle.inputs.specs.Inputs.{has_chosen_change, channel_pins, pins_of_a, pins_of_b};
 
-use bytes::has_bit;
+use byte_bits::has_bit;
 
 #[repr(C)]
 #[derive(Clone, Copy)]

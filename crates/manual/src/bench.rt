@@ -1,5 +1,5 @@
 // The bench: the chip, the levels on its pins, and whether a wire joins each TxD to the RxD beside it.
-use bytes::has_bit;
+use byte_bits::has_bit;
 use chip_answers::Lines;
 use chip_device::fresh;
 use chip_step::{Answer, step};

@@ -5,8 +5,8 @@ use mathlib.Core.Bool.{Bool}
 use mathlib.Core.List.{List, [], ◌∷◌}
 use Rattle.format.proofs.Laws.Numbers.{accepted}
 use Rattle.format.specs.Pick.{pick}
-use Rattle.bytes.specs.Bytes.{has_bit}
-use Rattle.bytes.proofs.Laws.{own_bits}
+use Rattle.byte_bits.specs.Bytes.{has_bit}
+use Rattle.byte_bits.proofs.Laws.{own_bits}
 use Rattle.outputs.specs.declared.outputs.Outputs.{Outputs}
 use Rattle.outputs.specs.Outputs.{opcr_not_modelled, driven_by, driven_op3, op_levels}
 

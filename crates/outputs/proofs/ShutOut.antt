@@ -6,7 +6,7 @@ use native.Mathlib.Omega.{arith}
 use lib.Dec.{eqb}
 use lib.ListN.{length}
 use Rattle.format.specs.Pick.{pick}
-use Rattle.bytes.specs.Bytes.{has_bit, weight_of, byte_of}
+use Rattle.byte_bits.specs.Bytes.{has_bit, weight_of, byte_of}
 use Rattle.outputs.specs.declared.outputs.Outputs.{Outputs}
 use Rattle.outputs.specs.Outputs.{fresh_outputs, opcr_not_modelled, driven_by, driven_op3, op_levels}
 use Rattle.outputs.proofs.Laws.{Modelled}

@@ -2,7 +2,7 @@
 use Rattle.std.specs.Prelude.{ℕ, ◌-◌, ◌/◌, ◌%◌, Bool, not, ◌||◌, eqb}
 use Rattle.std.specs.Int.Bits.{bit_and, bit_or}
 use Rattle.format.specs.Pick.{pick}
-use Rattle.bytes.specs.Bytes.{has_bit, byte_of}
+use Rattle.byte_bits.specs.Bytes.{has_bit, byte_of}
 use Rattle.outputs.specs.declared.outputs.Outputs.{Outputs}
 
 -- "Chip reset: .. every other register, .. and output bit 0"

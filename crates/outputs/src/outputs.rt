@@ -3,7 +3,7 @@ ghost use Rattle.std.specs.Prelude.{◌≡◌};
 ghost use Rattle.outputs.specs.Outputs.{fresh_outputs, bits_set, bits_reset, outputs_chosen, opcr_not_modelled};
 ghost use Rattle.outputs.specs.Outputs.{driven_by, driven_op3, op_levels};
 
-use bytes::{byte_of, has_bit};
+use byte_bits::{byte_of, has_bit};
 
 #[repr(C)]
 #[derive(Clone, Copy)]

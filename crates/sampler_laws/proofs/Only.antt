@@ -143,11 +143,11 @@ module _ {A : Type 0} (i e i₂ e₂ : List Line → List A) (s : Same i e i₂ 
     where
       go : Follows (length ls) ls → e (lines ls) ≡ e₂ (lines ls)
       go (Follows.all lows a l q) = subst (λ (r : Found). e (lines r) ≡ e₂ (lines r)) q (s.lows lows a)
-      go (Follows.then-low lows g rest a l q) =
+      go (Follows.then_low lows g rest a l q) =
           let m : length (lows ++ (false, g) ∷ rest) ≡ length lows + suc (length rest) = length-append lows ((false, g) ∷ rest) in
           let k : length (lows ++ (false, g) ∷ rest) ≡ length ls = ap length q in
           absurd (omega arith)
-      go (Follows.then-high lows g rest a l q) =
+      go (Follows.then_high lows g rest a l q) =
           let w = narrow_append (lows ++ (true, g) ∷ []) rest (rw (append_assoc lows ((true, g) ∷ []) rest, q) n) in
           subst (λ (r : Found). e (lines r) ≡ e₂ (lines r)) q (rw (lines_of lows ((true, g) ∷ rest)) (s.waits g lows rest a (s.heard rest w)))
 

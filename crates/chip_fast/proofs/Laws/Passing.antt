@@ -7,7 +7,7 @@ use native.Mathlib.Omega.{arith}
 use lib.Dec.{eqb, ltb, eqb-suc-zero}
 use borrow.Author.Tests.{lt-ltb, le-ltb}
 use Rattle.format.specs.Pick.{pick}
-use Rattle.bytes.specs.Bytes.{has_bit}
+use Rattle.byte_bits.specs.Bytes.{has_bit}
 use Rattle.format.specs.declared.counts.Ticks.{Ticks}
 use Rattle.dividers.proofs.Laws.Divider.{ticks_of}
 use Rattle.clocks.specs.Channel.{side_room}

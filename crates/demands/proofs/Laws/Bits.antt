@@ -6,7 +6,7 @@ use native.Mathlib.Omega.{arith}
 use lib.Dec.{ltb}
 use Rattle.format.specs.Digits.{bit}
 use Rattle.format.specs.Pick.{pick}
-use Rattle.bytes.specs.Bytes.{has_bit, weight_of, byte_of}
+use Rattle.byte_bits.specs.Bytes.{has_bit, weight_of, byte_of}
 
 weighs : (b : Bool) (w : ℕ) → weight_of b w ≡ bit b * w
 unfolding weight_of pick

@@ -8,7 +8,7 @@ use Rattle.clocks.specs.declared.channel.ClockEvent.{ClockEvent}
 use Rattle.clocks.specs.Pulses.{Side, code_of, edge_of}
 use Rattle.clocks.specs.Pulses.Side.{receives, transmits}
 use Rattle.clocks.proofs.Pulses.{clocks}
-use Rattle.bytes.specs.Bytes.{has_bit}
+use Rattle.byte_bits.specs.Bytes.{has_bit}
 use Rattle.inputs.specs.declared.inputs.ChannelPins.{ChannelPins}
 use Rattle.inputs.specs.Inputs.{moved_of, pins_of_a, pins_of_b}
 use Rattle.front.specs.declared.front.Front.{Front}

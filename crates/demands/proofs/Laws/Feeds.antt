@@ -8,7 +8,7 @@ use lib.Dec.{eqb}
 use borrow.Author.Tests.{lt-ltb, ne_eqb}
 use Rattle.format.specs.Pick.{pick}
 use Rattle.format.proofs.Laws.Pick.{pick_all}
-use Rattle.bytes.specs.Bytes.{has_bit}
+use Rattle.byte_bits.specs.Bytes.{has_bit}
 use Rattle.feed.specs.declared.feed.Effect.TheVariants.{NoEffect}
 use Rattle.feed.specs.declared.feed.Enabling.TheVariants.{Enables}
 use Rattle.feed.specs.declared.feed.Setting.{Setting}

@@ -11,7 +11,7 @@ use Rattle.receiver_status.specs.declared.status.Status.{Status}
 use Rattle.receiver_status.specs.Status.{status_of}
 use Rattle.transmitter.specs.declared.status.TransmitterStatus.{TransmitterStatus}
 use Rattle.front_modes.specs.Modes.{sender_shown}
-use Rattle.bytes.specs.Bytes.{has_bit}
+use Rattle.byte_bits.specs.Bytes.{has_bit}
 use Rattle.chip_shown.specs.declared.shown.Shown.{Shown}
 use Rattle.chip_shown.specs.Shown.{block_errors, shown_of, channel_shown}
 use Rattle.chip_answers.specs.Answers.{isr_of}

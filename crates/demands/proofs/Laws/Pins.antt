@@ -6,7 +6,7 @@ use mathlib.Core.Bool.{Bool, true, false, not}
 use mathlib.Core.List.{List}
 use native.Mathlib.Omega.{arith}
 use Rattle.format.specs.Pick.{pick}
-use Rattle.bytes.specs.Bytes.{has_bit, weight_of, byte_of}
+use Rattle.byte_bits.specs.Bytes.{has_bit, weight_of, byte_of}
 use Rattle.outputs.specs.declared.outputs.Outputs.{Outputs}
 use Rattle.outputs.specs.Outputs.{driven_by, driven_op3, op_levels}
 use Rattle.chip_answers.specs.declared.answers.Lines.{Lines}

@@ -6,8 +6,8 @@ use mathlib.Core.Bool.{Bool, true, false}
 use mathlib.Core.List.{List, [], ◌∷◌}
 use lib.ListN.{replicate}
 use Rattle.format.specs.Pick.{pick}
-use Rattle.bytes.specs.Bytes.{has_bit}
-use Rattle.bytes.proofs.Laws.{powers, lacks}
+use Rattle.byte_bits.specs.Bytes.{has_bit}
+use Rattle.byte_bits.proofs.Laws.{powers, lacks}
 use Rattle.inputs.specs.Inputs.{rises_of, falls_of}
 
 -- the k-th pin, where the levels before and after are the k-th of these

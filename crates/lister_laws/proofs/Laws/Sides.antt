@@ -14,7 +14,7 @@ use Rattle.dividers.specs.Divider.{divided_of, sixteenth_of}
 use Rattle.dividers.specs.Rates.{period_of}
 use Rattle.clocks.specs.declared.channel.Phases.{Phases}
 use Rattle.clocks.specs.Channel.{restarted, ticked_of, side_of, transmitter1x, clocked_of}
-use Rattle.bytes.specs.Bytes.{has_bit}
+use Rattle.byte_bits.specs.Bytes.{has_bit}
 use Rattle.inputs.specs.Inputs.{pins_of_a}
 use Rattle.front_side.specs.declared.side.Side.{Side}
 use Rattle.front_side.specs.Side.{buffer_written}

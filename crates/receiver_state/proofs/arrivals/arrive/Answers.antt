@@ -5,8 +5,8 @@ use Rattle.receiver_state.proofs.arrivals.arrive.Goals as goal
 
 pub returns-in-NoCharacter : goal.returns-in-NoCharacter
 unfolding arrived_of
-returns-in-NoCharacter c = simp c.enum_told.given.1
+returns-in-NoCharacter c = simp c.in-NoCharacter.is
 
 pub returns-in-Arrival : goal.returns-in-Arrival
 unfolding arrived_of
-returns-in-Arrival c = simp (c.enter.ensures, c.came.given.1)
+returns-in-Arrival c = simp (c.enter.ensures, c.in-Arrival.is)

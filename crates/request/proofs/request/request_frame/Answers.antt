@@ -9,28 +9,35 @@ use Rattle.request.specs.Request.{request_of}
 use Rattle.request.proofs.Laws.Request.{request_within, over_asked}
 use Rattle.request.proofs.request.request_frame.Goals as goal
 
-answered : (c : tie.After-answer-of)
-    → let a = c.args in
-    c.answer_of-answer.result ≡ request_of a.mr1 a.mr2 (length a.space.now)
+pub write_levels-requires : goal.write_levels-requires
 unfolding request_of
-answered c =
+write_levels-requires c =
+    let a = c.args in
+    let answered : c.answer_of-answer.result ≡ request_of a.mr1 a.mr2 (length a.space.now) =
     simp (
       c.answer_of-answer.ensures,
       c.first_refusal.ensures,
       c.frame_length-pulses.ensures,
       c.mr2_not_modelled.ensures,
       c.mr1_not_modelled.ensures,
-    )
-
-pub write_levels-requires : goal.write_levels-requires
-write_levels-requires c =
-    let a = c.args in
-    let e = ap (λ (r : FrameAnswer). r.length.0) (answered c) in
+    ) in
+    let e = ap (λ (r : FrameAnswer). r.length.0) answered in
     let w = request_within a.mr1 a.mr2 (length a.space.now) in
     omega arith
 
 pub returns : goal.returns
+unfolding request_of
 returns c =
-    let at = c in
-    let a = at.args in
-    (answered at, rw (c.write_levels.ensures, answered at) (over_asked a.mr1 a.mr2 a.byte a.space.now))
+    let a = c.args in
+    let answered : c.answer_of-answer.result ≡ request_of a.mr1 a.mr2 (length a.space.now) =
+    simp (
+      c.answer_of-answer.ensures,
+      c.first_refusal.ensures,
+      c.frame_length-pulses.ensures,
+      c.mr2_not_modelled.ensures,
+      c.mr1_not_modelled.ensures,
+    ) in
+    record {
+      answer = answered;
+      space = rw (c.write_levels.ensures, answered) (over_asked a.mr1 a.mr2 a.byte a.space.now);
+    }

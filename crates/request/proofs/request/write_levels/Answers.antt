@@ -10,14 +10,6 @@ use Rattle.request.specs.Request.{open_levels, over_front}
 use Rattle.request.proofs.Laws.Request.{open_length, open_at, over_more}
 use Rattle.request.proofs.request.write_levels.Goals as goal
 
-level_is : (c : tie.After-level-byte invariant-loop decreases-loop)
-    → let a = c.args in
-    c.level_byte.result ≡ get_or (open_levels a.mr1 a.byte a.pulses.0) c.loop-i.i 1
-level_is c =
-    let a = c.args in
-    rw (c.level_byte.ensures, c.level_of.ensures, c.frame_bits-bits.ensures)
-    (sym (open_at a.mr1 a.byte a.pulses.0 c.loop-i.i))
-
 pub loop-i-init : goal.loop-i-init
 loop-i-init c = (omega arith, refl, refl)
 
@@ -29,9 +21,12 @@ loop-i-preserved c =
     let at = c in
     let start = at in
     let a = start.args in
-    let n = open_length a.mr1 a.byte a.pulses.0 in (
+    let n = open_length a.mr1 a.byte a.pulses.0 in
+    let level_is : c.level_byte.result ≡ get_or (open_levels a.mr1 a.byte a.pulses.0) c.loop-i.i 1 =
+    rw (c.level_byte.ensures, c.level_of.ensures, c.frame_bits-bits.ensures)
+    (sym (open_at a.mr1 a.byte a.pulses.0 c.loop-i.i)) in (
       omega arith,
-      rw (level_is c, at.loop-i.invariant.1, add-one)
+      rw (level_is, at.loop-i.invariant.1, add-one)
           (over_more (open_levels a.mr1 a.byte a.pulses.0) a.space.now at.loop-i.i (omega (arith, start.requires)) (omega arith)),
       simp length-set at.loop-i.invariant.2,
     )

@@ -6,13 +6,12 @@ use Rattle.format.proofs.Laws.Digits.{power}
 use Rattle.sampler_state.proofs.Laws.Assembly.{width_eight}
 use Rattle.sampler_state.proofs.assembly.data_weight.Goals as goal
 
-eight : (c : tie.After-data-width) → c.data_width-width.result.0 ≤ 8
-eight c = rw c.data_width-width.ensures (width_eight c.args.format)
-
 pub overflow_shl-result : goal.overflow_shl-result
-overflow_shl-result c = let e = eight c in omega arith
+overflow_shl-result c =
+    let e : c.data_width-width.result.0 ≤ 8 = rw c.data_width-width.ensures (width_eight c.args.format) in
+    omega arith
 
 pub returns : goal.returns
 returns c =
-    let e = eight c in
+    let e : c.data_width-width.result.0 ≤ 8 = rw c.data_width-width.ensures (width_eight c.args.format) in
     rw (power 16 c.data_width-width.result.0 (omega arith), c.data_width-width.ensures)

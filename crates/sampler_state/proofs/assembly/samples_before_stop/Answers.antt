@@ -7,11 +7,10 @@ use Rattle.sampler_state.specs.Assembly.{samples_of}
 use Rattle.sampler_state.proofs.Laws.Assembly.{width_eight}
 use Rattle.sampler_state.proofs.assembly.samples_before_stop.Goals as goal
 
-eight : (c : tie.After-data-width) → c.data_width-width.result.0 ≤ 8
-eight c = rw c.data_width-width.ensures (width_eight c.args.format)
-
 pub overflow_add-result : goal.overflow_add-result
-overflow_add-result c = let e = eight c in omega arith
+overflow_add-result c =
+    let e : c.data_width-width.result.0 ≤ 8 = rw c.data_width-width.ensures (width_eight c.args.format) in
+    omega arith
 
 pub returns-then-has_parity : goal.returns-then-has_parity
 unfolding samples_of

@@ -7,8 +7,8 @@ use native.Mathlib.Omega.{arith}
 use lib.Dec.{eqb}
 use lib.ListN.{get_or}
 use Rattle.format.specs.Pick.{pick}
-use Rattle.bytes.specs.Bytes.{has_bit, weight_of, byte_of}
-use Rattle.bytes.proofs.Laws.{Weighs}
+use Rattle.byte_bits.specs.Bytes.{has_bit, weight_of, byte_of}
+use Rattle.byte_bits.proofs.Laws.{Weighs}
 
 no_bit_above : ((byte number : ℕ) → number < 8 → eqb (byte / 2 ^ number / 2 % 2) 1 ≡ has_bit byte number) → ⊥
 unfolding has_bit pick

@@ -1,7 +1,7 @@
 -- `byte_of` meets its contract: it is what its callees answer. Assumes nothing.
 use borrow.Author.Rules.{rules}
-use Rattle.bytes.specs.Bytes.{byte_of}
-use Rattle.bytes.proofs.bytes.byte_of.Goals as goal
+use Rattle.byte_bits.specs.Bytes.{byte_of}
+use Rattle.byte_bits.proofs.bytes.byte_of.Goals as goal
 
 pub returns : goal.returns
 unfolding byte_of

@@ -10,7 +10,7 @@ use lib.ListN.{replicate, get_or}
 use borrow.Author.Tests.{le-ltb}
 use Rattle.format.specs.Pick.{pick}
 use Rattle.format.proofs.Laws.Numbers.{listed}
-use Rattle.bytes.specs.Bytes.{has_bit, weight_of, byte_of}
+use Rattle.byte_bits.specs.Bytes.{has_bit, weight_of, byte_of}
 
 -- the bytes of bit 0 alone, of bit 1 alone and so on
 abbrev pub powers : List ℕ

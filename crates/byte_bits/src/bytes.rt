@@ -1,6 +1,6 @@
 // One bit of a byte, and the byte of eight bits.
 ghost use Rattle.std.specs.Prelude.{◌≤◌, ◌≡◌};
-ghost use Rattle.bytes.specs.Bytes.{has_bit, weight_of, byte_of};
+ghost use Rattle.byte_bits.specs.Bytes.{has_bit, weight_of, byte_of};
 
 // Whether a byte's bit is set, 0 its lowest. A byte has no bit above 7.
 pub fn has_bit(byte: u8, number: u8) -> bool

@@ -2,8 +2,8 @@
 use borrow.Author.Rules.{rules}
 use Rattle.format.proofs.Laws.{steps}
 use Rattle.format.proofs.Laws.{steps}
-use Rattle.bytes.specs.Bytes.{weight_of}
-use Rattle.bytes.proofs.bytes.weight_of.Goals as goal
+use Rattle.byte_bits.specs.Bytes.{weight_of}
+use Rattle.byte_bits.proofs.bytes.weight_of.Goals as goal
 
 pub returns-then-bit : goal.returns-then-bit
 unfolding weight_of

@@ -1,8 +1,8 @@
 -- `has_bit` meets its contract: its tests are the definition's. Assumes nothing.
 use borrow.Author.Rules.{rules}
 use Rattle.format.proofs.Laws.{steps}
-use Rattle.bytes.specs.Bytes.{has_bit}
-use Rattle.bytes.proofs.bytes.has_bit.Goals as goal
+use Rattle.byte_bits.specs.Bytes.{has_bit}
+use Rattle.byte_bits.proofs.bytes.has_bit.Goals as goal
 
 pub returns-then-number-lt8 : goal.returns-then-number-lt8
 unfolding has_bit
