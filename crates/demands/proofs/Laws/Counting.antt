@@ -200,4 +200,4 @@ goes_over mode k t levels es [] l g = rw (append-nil es, add-zero k) g
 goes_over mode k t levels es (e ∷ fs) l g =
     let h = (and-eq-true_iff (leaves_counter e) _).0 l in
     rw (append_assoc es (e ∷ []) fs, add_assoc k (bit (pulse_at mode levels es e)) (pulses_from mode levels (and_then es e) fs)) at
-    (goes_over mode _ t levels (and_then es e) fs h.1 (goes_next mode k t levels es e h.0 g))
+    (goes_over mode (k + bit (pulse_at mode levels es e)) t levels (and_then es e) fs h.1 (goes_next mode k t levels es e h.0 g))

@@ -84,7 +84,7 @@ pub ledger_append : (ch : Channel) (levels : ℕ) (l : Ledger) (before es : List
     ≡ heard_all (fate_of ch (ledger_from ch levels l before es) e) (lines_at ch levels (before ++ es) e)
 unfolding ledger_from
 ledger_append ch levels l before [] e = rw (append-nil before)
-ledger_append ch levels l before (x ∷ es) e = ledger_append ch levels _ (and_then before x) es e ∙ rw (append_assoc before (x ∷ []) es)
+ledger_append ch levels l before (x ∷ es) e = ledger_append ch levels (heard_all (fate_of ch l x) (lines_at ch levels before x)) (and_then before x) es e ∙ rw (append_assoc before (x ∷ []) es)
 
 ledger_then : (levels : ℕ) (ch : Channel) (es : List Event) (e : Event)
     → ledger ch levels (and_then es e) ≡ written (ledger ch levels es) (hands_to ch (front_after levels es) e)

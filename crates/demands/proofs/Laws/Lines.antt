@@ -214,4 +214,4 @@ pub ledger_from_lem : (ch : Channel) (levels : ℕ) (l : Ledger) (before es : Li
 unfolding ledger_from Receivers.ledger_from feeds_from
 ledger_from_lem ch levels l before [] = refl
 ledger_from_lem ch levels l before (e ∷ es) =
-    rw (ledger_event ch levels l before e, ledger_from_lem ch levels _ (and_then before e) es, over_then front_then (front_at levels) before e)
+    rw (ledger_event ch levels l before e, ledger_from_lem ch levels (written l (feed_of ch (handed_after (front_after levels before) e))) (and_then before e) es, over_then front_then (front_at levels) before e)

@@ -9,7 +9,7 @@ wrapping_add_u64-requires c = tt
 
 pub returns-then-code-lt-TIMER_TOGGLE : goal.returns-then-code-lt-TIMER_TOGGLE
 unfolding side_passed
-returns-then-code-lt-TIMER_TOGGLE c = simp c.wrapping_add_u64.ensures (search steps)
+returns-then-code-lt-TIMER_TOGGLE c = simp c.wrapping_add_u64.ensures.value (search steps)
 
 pub returns : goal.returns
 unfolding side_passed

@@ -5,6 +5,5 @@ use Rattle.duart.proofs.duart.duart_capture.Goals as goal
 
 pub returns : goal.returns
 returns c =
-    let read = c in
-    let met = read.read_capture-captured.ensures in
+    let met = c.read_capture-captured.ensures in
     record { answer = c.capture_seen.ensures ∙ rw met.answer; first = met.first; second = met.second }

@@ -8,15 +8,10 @@ use Rattle.replay_text.proofs.lines.put_byte.Goals as goal
 
 pub overflow_add-result : goal.overflow_add-result
 overflow_add-result c =
-    let number = c in
-    let start = number in
-    omega (arith, decimal_within 3 start.args.byte, number.put_decimal-next.ensures.ends, start.requires)
+    omega (arith, decimal_within 3 c.args.byte, c.put_decimal-next.ensures.ends, c.requires)
 
 pub returns : goal.returns
-returns c =
-    let put = c in
-    let number = put in
-    let start = number in (
-      omega (arith, decimal_within 3 start.args.byte, number.put_decimal-next.ensures.ends),
-      puts_then number.put_decimal-next.ensures (puts_one _ _ _ _ _ refl put.put.ensures),
-    )
+returns c = record {
+  within = omega (arith, decimal_within 3 c.args.byte, c.put_decimal-next.ensures.ends);
+  text = puts_then c.put_decimal-next.ensures (puts_one _ _ _ _ _ refl c.put.ensures);
+}

@@ -9,11 +9,8 @@ use Rattle.replay_text.proofs.lines.put_flag.Goals as goal
 
 pub returns : goal.returns
 returns c =
-    let last = c in
-    let first = last in
-    let digit = first in
-    let a = digit.args in (
-      refl,
-      puts_as (ap (λ (d : ℕ). d ∷ a.separator ∷ []) digit.level_digit.ensures)
-          (puts_then (puts_one _ _ _ _ _ refl first.put.ensures) (puts_one _ _ _ _ _ (omega arith) last.put-2.ensures)),
-    )
+    let a = c.args in record {
+      within = refl;
+      text = puts_as (ap (λ (d : ℕ). d ∷ a.separator ∷ []) c.level_digit.ensures)
+          (puts_then (puts_one _ _ _ _ _ refl c.put.ensures) (puts_one _ _ _ _ _ (omega arith) c.put-2.ensures));
+    }

@@ -10,14 +10,12 @@ use Rattle.replay_text.proofs.lines.write_error.Goals as goal
 
 pub overflow_add-result : goal.overflow_add-result
 overflow_add-result c =
-    let number = c in
-    omega (arith, decimal_within 20 number.args.line, number.put_decimal-next.ensures.ends, number.put_bytes-begun.ensures.ends)
+    omega (arith, decimal_within 20 c.args.line, c.put_decimal-next.ensures.ends, c.put_bytes-begun.ensures.ends)
 
 pub returns : goal.returns
 unfolding error_text bytes_of
 returns c =
-    let number = c in
-    let words = number in
-    let w = decimal_within 20 words.args.line in
-    puts_front (puts_then words.put_bytes-begun.ensures (puts_then number.put_decimal-next.ensures (puts_one _ _ _ _ _ refl c.put.ensures)))
-    (omega (arith, w, number.put_decimal-next.ensures.ends, words.put_bytes-begun.ensures.ends))
+    let w = decimal_within 20 c.args.line in
+    let front = puts_front (puts_then c.put_bytes-begun.ensures (puts_then c.put_decimal-next.ensures (puts_one _ _ _ _ _ refl c.put.ensures)))
+    (omega (arith, w, c.put_decimal-next.ensures.ends, c.put_bytes-begun.ensures.ends)) in
+    record { within = front.0; text = front.1 }

@@ -7,18 +7,13 @@ use Rattle.replay_text.proofs.lines.write_seen.Goals as goal
 
 pub returns : goal.returns
 returns c =
-    let op = c in
-    let txdb = op in
-    let txda = txdb in
-    let irq = txda in
-    let byte = irq in
-    let number = byte in
-    puts_front
+    let front = puts_front
     (puts_as (simp append_assoc)
-    (puts_then number.put_byte-after_number.ensures.1
-    (puts_then byte.put_byte-after_byte.ensures.1
-    (puts_then irq.put_flag-after_irq.ensures.1
-    (puts_then txda.put_flag-after_txda.ensures.1
-    (puts_then txdb.put_flag-after_txdb.ensures.1
-    (puts_then op.put_byte-after_op.ensures.1 c.put_flag.ensures.1)))))))
-    (omega arith)
+    (puts_then c.put_byte-after_number.ensures.text
+    (puts_then c.put_byte-after_byte.ensures.text
+    (puts_then c.put_flag-after_irq.ensures.text
+    (puts_then c.put_flag-after_txda.ensures.text
+    (puts_then c.put_flag-after_txdb.ensures.text
+    (puts_then c.put_byte-after_op.ensures.text c.put_flag.ensures.text)))))))
+    (omega arith) in
+    record { within = front.0; text = front.1 }

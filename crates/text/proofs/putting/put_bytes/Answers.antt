@@ -19,16 +19,13 @@ loop-i-init c = (omega arith, record { ends = refl; space = refl })
 
 pub loop-i-preserved : goal.loop-i-preserved
 loop-i-preserved c =
-    let put = c in
-    let at = put in
-    let a = at.args in
-    (omega arith, puts_as (one_more a.bytes.now at.loop-i.i (omega arith)) (puts_then at.loop-i.invariant.1 (puts_one _ _ _ _ _ (omega arith) put.put.ensures)))
+    let a = c.args in
+    (omega arith, puts_as (one_more a.bytes.now c.loop-i.i (omega arith)) (puts_then c.loop-i.invariant.1 (puts_one _ _ _ _ _ (omega arith) c.put.ensures)))
 
 pub shape_of-space : goal.shape_of-space
 shape_of-space c = puts_length c.loop-i.invariant.1
 
 pub returns : goal.returns
 returns c =
-    let at = c in
-    let a = at.args in
-    puts_as (take_all at.loop-i.i a.bytes.now (omega arith)) at.loop-i.invariant.1
+    let a = c.args in
+    puts_as (take_all c.loop-i.i a.bytes.now (omega arith)) c.loop-i.invariant.1

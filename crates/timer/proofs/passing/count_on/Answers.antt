@@ -8,4 +8,4 @@ pub wrapping_sub_u16-requires : goal.wrapping_sub_u16-requires
 wrapping_sub_u16-requires c = tt
 
 pub returns : goal.returns
-returns c = counted_back _ _ _ (search rules) c.wrapping_sub_u16.ensures
+returns c = counted_back _ _ _ (search rules) c.wrapping_sub_u16.ensures.value

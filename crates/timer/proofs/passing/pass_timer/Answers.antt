@@ -24,12 +24,12 @@ returns-then-runs c =
       c.count_on-count.ensures,
       c.pulses_in.ensures,
       ← c.runs.ensures,
-      c.wrapping_add_u64-phase.ensures,
+      c.wrapping_add_u64-phase.ensures.value,
     )
     (search steps)
 
 pub returns : goal.returns
 unfolding timer_passed
 returns c =
-    simp (← c.runs.ensures, c.wrapping_add_u64-phase.ensures)
+    simp (← c.runs.ensures, c.wrapping_add_u64-phase.ensures.value)
     (search steps)

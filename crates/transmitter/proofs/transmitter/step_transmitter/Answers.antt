@@ -5,40 +5,40 @@ use Rattle.transmitter.proofs.transmitter.step_transmitter.Goals as goal
 
 pub returns-in-Nothing : goal.returns-in-Nothing
 unfolding after_input
-returns-in-Nothing c = simp c.enum_told.given.1
+returns-in-Nothing c = simp c.in-Nothing.is
 
 pub returns-in-Pulse : goal.returns-in-Pulse
 unfolding after_input
-returns-in-Pulse c = simp (c.pulse.ensures, c.input.given.1)
+returns-in-Pulse c = simp (c.pulse.ensures, c.in-Pulse.is)
 
 pub returns-in-Write : goal.returns-in-Write
 unfolding after_input
-returns-in-Write c = simp (c.write.ensures, c.input2.given.1)
+returns-in-Write c = simp (c.write.ensures, c.in-Write.is)
 
 pub returns-in-Enable : goal.returns-in-Enable
 unfolding after_input
-returns-in-Enable c = simp (c.enable.ensures, c.enum_told2.given.1)
+returns-in-Enable c = simp (c.enable.ensures, c.in-Enable.is)
 
 pub returns-in-Disable : goal.returns-in-Disable
 unfolding after_input
-returns-in-Disable c = simp (c.disable.ensures, c.enum_told3.given.1)
+returns-in-Disable c = simp (c.disable.ensures, c.in-Disable.is)
 
 pub returns-in-StartBreak : goal.returns-in-StartBreak
 unfolding after_input
-returns-in-StartBreak c = simp (c.ask_break.ensures, c.enum_told4.given.1)
+returns-in-StartBreak c = simp (c.ask_break.ensures, c.in-StartBreak.is)
 
 pub returns-in-StopBreak : goal.returns-in-StopBreak
 unfolding after_input
-returns-in-StopBreak c = simp (c.end_break.ensures, c.enum_told5.given.1)
+returns-in-StopBreak c = simp (c.end_break.ensures, c.in-StopBreak.is)
 
 pub returns-in-Reset : goal.returns-in-Reset
 unfolding after_input
-returns-in-Reset c = simp (c.reset.ensures, c.enum_told6.given.1)
+returns-in-Reset c = simp (c.reset.ensures, c.in-Reset.is)
 
 pub returns-in-ChipReset : goal.returns-in-ChipReset
 unfolding after_input
-returns-in-ChipReset c = simp (c.fresh_transmitter.ensures, c.enum_told7.given.1)
+returns-in-ChipReset c = simp (c.fresh_transmitter.ensures, c.in-ChipReset.is)
 
 pub returns-in-ModeChange : goal.returns-in-ModeChange
 unfolding after_input
-returns-in-ModeChange c = simp (c.drop_sending.ensures, c.enum_told8.given.1)
+returns-in-ModeChange c = simp (c.drop_sending.ensures, c.in-ModeChange.is)

@@ -6,28 +6,24 @@ use Rattle.vcd_capture.proofs.capturing.capture.Goals as goal
 
 pub slice_bounds-result-end : goal.slice_bounds-result-end
 slice_bounds-result-end c =
-    let read = c in
-    let x = read.args in
-    let met = read.read_capture-captured.ensures in
+    let x = c.args in
+    let met = c.read_capture-captured.ensures in
     (part-b _ _ _ _ _ _ _ _ _ met).1
 
 pub returns-then-channel_b : goal.returns-then-channel_b
 returns-then-channel_b c =
-    let read = c in
-    let x = read.args in
-    let met = read.read_capture-captured.ensures in
+    let x = c.args in
+    let met = c.read_capture-captured.ensures in
     (part-b _ _ _ _ _ _ _ _ _ met).0 ∙ rw c.if-channel_b.true
 
 pub slice_bounds-result-end-2 : goal.slice_bounds-result-end-2
 slice_bounds-result-end-2 c =
-    let read = c in
-    let x = read.args in
-    let met = read.read_capture-captured.ensures in
+    let x = c.args in
+    let met = c.read_capture-captured.ensures in
     (part-a _ _ _ _ _ _ _ _ _ met).1
 
 pub returns : goal.returns
 returns c =
-    let read = c in
-    let x = read.args in
-    let met = read.read_capture-captured.ensures in
+    let x = c.args in
+    let met = c.read_capture-captured.ensures in
     (part-a _ _ _ _ _ _ _ _ _ met).0 ∙ rw c.if-channel_b.false

@@ -38,27 +38,20 @@ hear_wire-length_b-requires c = (c.scan-found.ensures.1, c.end_of-end.ensures.1)
 
 pub returns-then-log_a-length_a : goal.returns-then-log_a-length_a
 returns-then-log_a-length_a c =
-    let second = c in
-    let one = second in
-    let last = one in
-    let test = last in
-    let read = test in
-    let mode = read in
-    let start = mode in
-    let x = start.args in
+    let x = c.args in
     let text = x.text.now in
     let a = x.name_a.now in
     let b = x.name_b.now in
     let la = x.log_a.now in
     let lb = x.log_b.now in
-    let found = read.scan-found.ensures.0 in
-    let m : (mr1_not_modelled x.asked.mr1 || ltb 12 x.asked.code) ≡ false = rw (← mode.mr1_not_modelled.ensures) mode.if-mr1_not_modelled-asked.false in
-    let inside : (scan_of text a b).number ≡ 0 = rw (← found) test.if-found-ne0.false in
-    let logs = heard_is x.asked text a b _ _ _ _ last.period_of-period.ensures last.setting_of-setting.ensures last.end_of-end.ensures.0 found in
-    let na : one.hear_wire-length_a.result ≡ length (log_a x.asked text a b) =
-    from_start (rw logs.0 at one.hear_wire-length_a.ensures.ends) in
-    let nb : second.hear_wire-length_b.result ≡ length (log_b x.asked text a b) =
-    from_start (rw logs.1 at second.hear_wire-length_b.ensures.ends) in
+    let found = c.scan-found.ensures.0 in
+    let m : (mr1_not_modelled x.asked.mr1 || ltb 12 x.asked.code) ≡ false = rw (← c.mr1_not_modelled.ensures) c.if-mr1_not_modelled-asked.false in
+    let inside : (scan_of text a b).number ≡ 0 = rw (← found) c.if-found-ne0.false in
+    let logs = heard_is x.asked text a b _ _ _ _ c.period_of-period.ensures c.setting_of-setting.ensures c.end_of-end.ensures.0 found in
+    let na : c.hear_wire-length_a.result ≡ length (log_a x.asked text a b) =
+    from_start (rw logs.0 at c.hear_wire-length_a.ensures.ends) in
+    let nb : c.hear_wire-length_b.result ≡ length (log_b x.asked text a b) =
+    from_start (rw logs.1 at c.hear_wire-length_b.ensures.ends) in
     refused x.asked text a b la lb 8 c.refuse-then-log_a-length_a.result refl (eight x.asked text a b la lb m inside (rw (← na, ← nb) c.if-log_a-length_a.true)) c.refuse-then-log_a-length_a.ensures
 
 pub hear_wire-requires : goal.hear_wire-requires

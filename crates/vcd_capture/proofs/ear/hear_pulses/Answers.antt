@@ -20,22 +20,19 @@ take_came-next-requires c = omega (arith, c.requires)
 
 pub loop-left-preserved : goal.loop-left-preserved
 loop-left-preserved c =
-    let take = c in
-    let one = take in
-    let at = one in
-    let a = at.args in
-    let h = one.hop-hopped.ensures in
-    let r = one.hop-hopped.result in
-    let turn = hop-turn a.level a.setting at.loop-left.now_sampler at.loop-left.left r h in
-    let later = arrivals r.sampler (pulses_at (at.loop-left.left - r.pulses) a.level a.setting) in
-    let p = take.take_came-next.ensures in
+    let a = c.args in
+    let h = c.hop-hopped.ensures in
+    let r = c.hop-hopped.result in
+    let turn = hop-turn a.level a.setting c.loop-left.now_sampler c.loop-left.left r h in
+    let later = arrivals r.sampler (pulses_at (c.loop-left.left - r.pulses) a.level a.setting) in
+    let p = c.take_came-next.ensures in
     let w = came_within r.came in
     let l = log_length (list_of r.came) in
-    let rest = left_as (ap log_bytes turn.1 ∙ log_append (list_of r.came) later) at.loop-left.invariant.4 in (
+    let rest = left_as (ap log_bytes turn.1 ∙ log_append (list_of r.came) later) c.loop-left.invariant.4 in (
       omega (arith, h.some, h.few),
       omega (arith, p.ends, h.some, h.few),
-      puts_length p ∙ at.loop-left.invariant.2,
-      sym turn.0 ∙ at.loop-left.invariant.3,
+      puts_length p ∙ c.loop-left.invariant.2,
+      sym turn.0 ∙ c.loop-left.invariant.3,
       left_then rest p,
     )
 
@@ -44,10 +41,9 @@ shape_of-log c = c.loop-left.invariant.2
 
 pub returns : goal.returns
 returns c =
-    let at = c in
-    let a = at.args in
-    let e : at.loop-left.left ≡ 0 = omega arith in
+    let a = c.args in
+    let e : c.loop-left.left ≡ 0 = omega arith in
     record {
-      sampler = sym (no_after at.loop-left.now_sampler a.level a.setting) ∙ rw e at at.loop-left.invariant.3;
-      puts = left_none (left_as (rw e (no_arrivals at.loop-left.now_sampler a.level a.setting)) at.loop-left.invariant.4);
+      sampler = sym (no_after c.loop-left.now_sampler a.level a.setting) ∙ rw e at c.loop-left.invariant.3;
+      puts = left_none (left_as (rw e (no_arrivals c.loop-left.now_sampler a.level a.setting)) c.loop-left.invariant.4);
     }

@@ -9,34 +9,30 @@ use Rattle.vcd_capture.proofs.ear.hear_said.Goals as goal
 
 pub hear_until-requires : goal.hear_until-requires
 hear_until-requires c =
-    let start = c in
-    (omega arith, start.requires.0, start.requires.1)
+    (omega arith, c.requires.0, c.requires.1)
 
 pub returns-in-NoLine : goal.returns-in-NoLine
 unfolding ear_said heard_said
 returns-in-NoLine c =
     let a = c.args in
     record {
-      ear = rw c.enum_told.given.1;
-      puts = puts_as (rw c.enum_told.given.1 (sym log_none)) (puts_none a.at a.log.now);
+      ear = rw c.in-NoLine.is;
+      puts = puts_as (rw c.in-NoLine.is (sym log_none)) (puts_none a.at a.log.now);
     }
 
 pub returns-in-TimeLine : goal.returns-in-TimeLine
 unfolding ear_said heard_said
 returns-in-TimeLine c =
-    let until = c in
-    let said = until in
     record {
-      ear = rw said.said.given.1 until.hear_until.ensures.ear;
-      puts = puts_as (rw said.said.given.1) until.hear_until.ensures.puts;
+      ear = rw c.in-TimeLine.is c.hear_until.ensures.ear;
+      puts = puts_as (rw c.in-TimeLine.is) c.hear_until.ensures.puts;
     }
 
 pub returns-in-ValueLine : goal.returns-in-ValueLine
 unfolding ear_said heard_said
 returns-in-ValueLine c =
-    let said = c in
-    let a = said.args in
+    let a = c.args in
     record {
-      ear = c.hear_value.ensures ∙ rw said.said2.given.1;
-      puts = puts_as (rw said.said2.given.1 (sym log_none)) (puts_none a.at a.log.now);
+      ear = c.hear_value.ensures ∙ rw c.in-ValueLine.is;
+      puts = puts_as (rw c.in-ValueLine.is (sym log_none)) (puts_none a.at a.log.now);
     }

@@ -20,46 +20,39 @@ loop-i-init c =
     (omega arith, rw c.start-reading.ensures (omega arith), omega arith, omega arith, refl, rw (c.start-reading.ensures, c.drop_assembly.ensures) (left_all _ _ _))
 
 pub hear_said-step-requires : goal.hear_said-step-requires
-hear_said-step-requires c = let at = c in (at.loop-i.invariant.2, at.loop-i.invariant.3)
+hear_said-step-requires c = (c.loop-i.invariant.2, c.loop-i.invariant.3)
 
 pub overflow_add-i : goal.overflow_add-i
 overflow_add-i c =
-    let test = c in
-    omega (arith, test.loop-i-test.true)
+    omega (arith, c.loop-i-test.true)
 
 pub loop-i-preserved : goal.loop-i-preserved
 loop-i-preserved c =
-    let hear = c in
-    let say = hear in
-    let at = say in
-    let x = at.args in
-    let b = get_or x.text.now at.loop-i.i 0 in
-    let m = rw say.say-said.ensures at hear.hear_said-step.ensures in
-    let w = said_within x.period x.setting x.code at.loop-i.ear (said_of at.loop-i.reading b) at.loop-i.place at.loop-i.invariant.2 at.loop-i.invariant.3
-    (said_fits at.loop-i.reading b at.loop-i.invariant.1) in
-    let told = log_bytes (heard_said x.period x.setting at.loop-i.ear (said_of at.loop-i.reading b)) in
+    let x = c.args in
+    let b = get_or x.text.now c.loop-i.i 0 in
+    let m = rw c.say-said.ensures at c.hear_said-step.ensures in
+    let w = said_within x.period x.setting x.code c.loop-i.ear (said_of c.loop-i.reading b) c.loop-i.place c.loop-i.invariant.2 c.loop-i.invariant.3
+    (said_fits c.loop-i.reading b c.loop-i.invariant.1) in
+    let told = log_bytes (heard_said x.period x.setting c.loop-i.ear (said_of c.loop-i.reading b)) in
     let place = m.puts.ends in (
       omega arith,
-      rw c.take-reading.ensures (time_within at.loop-i.reading b true at.loop-i.invariant.1),
+      rw c.take-reading.ensures (time_within c.loop-i.reading b true c.loop-i.invariant.1),
       rw m.ear w.0,
       rw m.ear (omega (arith, w.1)),
-      puts_length {x = told} m.puts ∙ at.loop-i.invariant.4,
+      puts_length {x = told} m.puts ∙ c.loop-i.invariant.4,
       rw (c.take-reading.ensures, m.ear)
-          (left_then {x = told} (left_as (heard-next x.period x.setting x.code x.end at.loop-i.reading at.loop-i.ear x.text.now at.loop-i.i (omega arith)) at.loop-i.invariant.5) m.puts),
+          (left_then {x = told} (left_as (heard-next x.period x.setting x.code x.end c.loop-i.reading c.loop-i.ear x.text.now c.loop-i.i (omega arith)) c.loop-i.invariant.5) m.puts),
     )
 
 pub hear_until-last-requires : goal.hear_until-last-requires
-hear_until-last-requires c = let at = c in (at.requires.1, at.loop-i.invariant.2, at.loop-i.invariant.3)
+hear_until-last-requires c = (c.requires.1, c.loop-i.invariant.2, c.loop-i.invariant.3)
 
 pub shape_of-log : goal.shape_of-log
 shape_of-log c =
-    let until = c in
-    puts_length until.hear_until-last.ensures.puts ∙ until.loop-i.invariant.4
+    puts_length c.hear_until-last.ensures.puts ∙ c.loop-i.invariant.4
 
 pub returns : goal.returns
 returns c =
-    let until = c in
-    let at = until in
-    let x = at.args in
-    left_last (left_as (heard-end x.period x.setting x.code x.end at.loop-i.reading at.loop-i.ear x.text.now at.loop-i.i (omega arith)) at.loop-i.invariant.5)
-    until.hear_until-last.ensures.puts
+    let x = c.args in
+    left_last (left_as (heard-end x.period x.setting x.code x.end c.loop-i.reading c.loop-i.ear x.text.now c.loop-i.i (omega arith)) c.loop-i.invariant.5)
+    c.hear_until-last.ensures.puts

@@ -11,9 +11,8 @@ use Rattle.vcd_capture.proofs.ear.take_came.Goals as goal
 pub returns-in-NoCharacter : goal.returns-in-NoCharacter
 returns-in-NoCharacter c =
     let a = c.args in
-    puts_as (sym (ap (λ (x : Came). log_bytes (list_of x)) c.enum_told.given.1 ∙ log_none)) (puts_none a.at a.log.now)
+    puts_as (sym (ap (λ (x : Came). log_bytes (list_of x)) c.in-NoCharacter.is ∙ log_none)) (puts_none a.at a.log.now)
 
 pub returns-in-Arrival : goal.returns-in-Arrival
 returns-in-Arrival c =
-    let put = c in
-    puts_as (sym (ap (λ (x : Came). log_bytes (list_of x)) put.came.given.1 ∙ log_one _)) put.put_character.ensures
+    puts_as (sym (ap (λ (x : Came). log_bytes (list_of x)) c.in-Arrival.is ∙ log_one _)) c.put_character.ensures

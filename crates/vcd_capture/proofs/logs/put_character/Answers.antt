@@ -11,9 +11,6 @@ use Rattle.vcd_capture.proofs.logs.put_character.Goals as goal
 pub returns : goal.returns
 unfolding character_bytes
 returns c =
-    let last = c in
-    let marks = last in
-    let first = marks in
-    let a = first.args in
-    puts_as (ap (λ (m : ℕ). a.character.byte ∷ m ∷ []) marks.marks_byte.ensures)
-    (puts_then (puts_one _ _ _ _ _ refl first.put.ensures) (puts_one _ _ _ _ _ (omega arith) last.put-2.ensures))
+    let a = c.args in
+    puts_as (ap (λ (m : ℕ). a.character.byte ∷ m ∷ []) c.marks_byte.ensures)
+    (puts_then (puts_one _ _ _ _ _ refl c.put.ensures) (puts_one _ _ _ _ _ (omega arith) c.put-2.ensures))

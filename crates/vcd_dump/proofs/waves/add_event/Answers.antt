@@ -10,12 +10,10 @@ use Rattle.vcd_dump.proofs.waves.add_event.Goals as goal
 pub returns-then-tick : goal.returns-then-tick
 unfolding wave_after pick
 returns-then-tick c =
-    let put = c in
-    let test = put in
-    let a = test.args in
+    let a = c.args in
     record {
-      wave = rw (test.if-tick.true, test.values_of-values.ensures);
-      puts = puts_as (sym (pick_yes a.tick _ _ test.if-tick.true)) put.put_changes-at.ensures;
+      wave = rw (c.if-tick.true, c.values_of-values.ensures);
+      puts = puts_as (sym (pick_yes a.tick _ _ c.if-tick.true)) c.put_changes-at.ensures;
     }
 
 pub returns : goal.returns

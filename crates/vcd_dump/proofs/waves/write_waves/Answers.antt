@@ -28,10 +28,10 @@ few c = (begun c).requires.1
 
 pub loop-i-init : goal.loop-i-init
 loop-i-init c =
-    let start = c in (
+    (
       omega arith,
       record {
-        sound = start.requires.0;
+        sound = c.requires.0;
         values = c.values_of.ensures ∙ rw c.device_lines.ensures;
         before = omega arith;
         tick = omega arith;
@@ -43,55 +43,40 @@ loop-i-init c =
 
 pub put_changes-requires : goal.put_changes-requires
 put_changes-requires c =
-    let loop = c in
-    fits loop
+    fits c
 
 pub shape_of-space-then-answer-ne0 : goal.shape_of-space-then-answer-ne0
 shape_of-space-then-answer-ne0 c =
-    let put = c in
-    let loop = put in
-    puts_length put.put_changes.ensures ∙ loop.loop-i.invariant.1.same ∙ puts_length (begun loop).put_header-begun.ensures
+    puts_length c.put_changes.ensures ∙ c.loop-i.invariant.1.same ∙ puts_length (begun c).put_header-begun.ensures
 
 pub returns-then-answer-ne0 : goal.returns-then-answer-ne0
 returns-then-answer-ne0 c =
-    let put = c in
-    let test = put in
-    let step = test in
-    let read = step in
-    let loop = read in
-    let st = loop.loop-i.invariant.1 in
-    let a = (begun loop).args in
+    let st = c.loop-i.invariant.1 in
+    let a = (begun c).args in
     puts_as (text_is _ a.device a.events.now refl)
-    (puts_then (begun loop).put_header-begun.ensures
-    (stands-refused _ _ _ _ loop.loop-i.i read.record_at-event.result step.sound_step-answer.result (omega arith) st read.record_at-event.ensures
-    (step.sound_step-answer.ensures ∙ sound_answer_lem loop.loop-i.state _ st.sound ∙ ap (step_of loop.loop-i.state) step.event_of.ensures)
-    test.if-answer-ne0.true
-    put.put_changes.ensures))
+    (puts_then (begun c).put_header-begun.ensures
+    (stands-refused _ _ _ _ c.loop-i.i c.record_at-event.result c.sound_step-answer.result (omega arith) st c.record_at-event.ensures
+    (c.sound_step-answer.ensures ∙ sound_answer_lem c.loop-i.state _ st.sound ∙ ap (step_of c.loop-i.state) c.event_of.ensures)
+    c.if-answer-ne0.true
+    c.put_changes.ensures))
 
 pub add_event-wave-requires : goal.add_event-wave-requires
 add_event-wave-requires c =
-    let loop = c in
-    let f = fits loop in
-    (f.0, f.1, f.2, omega (arith, loop.loop-i.invariant.1.tick, few loop, c.loop-i-test.true))
+    let f = fits c in
+    (f.0, f.1, f.2, omega (arith, c.loop-i.invariant.1.tick, few c, c.loop-i-test.true))
 
 pub overflow_add-i : goal.overflow_add-i
 overflow_add-i c =
-    let test = c in
-    omega (arith, few test, test.loop-i-test.true)
+    omega (arith, few c, c.loop-i-test.true)
 
 pub loop-i-preserved : goal.loop-i-preserved
 loop-i-preserved c =
-    let add = c in
-    let test = add in
-    let step = test in
-    let read = step in
-    let loop = read in
-    let st = loop.loop-i.invariant.1 in (
+    let st = c.loop-i.invariant.1 in (
       omega arith,
-      stands_on _ _ _ _ loop.loop-i.i read.record_at-event.result step.sound_step-answer.result (omega arith) st read.record_at-event.ensures
-          (step.sound_step-answer.ensures ∙ sound_answer_lem loop.loop-i.state _ st.sound ∙ ap (step_of loop.loop-i.state) step.event_of.ensures)
-          test.if-answer-ne0.false
-          add.add_event-wave.ensures,
+      stands_on _ _ _ _ c.loop-i.i c.record_at-event.result c.sound_step-answer.result (omega arith) st c.record_at-event.ensures
+          (c.sound_step-answer.ensures ∙ sound_answer_lem c.loop-i.state _ st.sound ∙ ap (step_of c.loop-i.state) c.event_of.ensures)
+          c.if-answer-ne0.false
+          c.add_event-wave.ensures,
     )
 
 pub put_changes-requires-2 : goal.put_changes-requires-2
@@ -99,15 +84,11 @@ put_changes-requires-2 c = fits c
 
 pub shape_of-space : goal.shape_of-space
 shape_of-space c =
-    let put = c in
-    let loop = put in
-    puts_length put.put_changes-2.ensures ∙ loop.loop-i.invariant.1.same ∙ puts_length (begun loop).put_header-begun.ensures
+    puts_length c.put_changes-2.ensures ∙ c.loop-i.invariant.1.same ∙ puts_length (begun c).put_header-begun.ensures
 
 pub returns : goal.returns
 returns c =
-    let put = c in
-    let loop = put in
-    let a = (begun loop).args in
+    let a = (begun c).args in
     puts_as (text_is _ a.device a.events.now refl)
-    (puts_then (begun loop).put_header-begun.ensures
-    (stands-end _ _ _ _ loop.loop-i.i (omega arith) loop.loop-i.invariant.1 put.put_changes-2.ensures))
+    (puts_then (begun c).put_header-begun.ensures
+    (stands-end _ _ _ _ c.loop-i.i (omega arith) c.loop-i.invariant.1 c.put_changes-2.ensures))

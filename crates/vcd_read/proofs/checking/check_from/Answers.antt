@@ -11,20 +11,12 @@ use Rattle.vcd_read.proofs.checking.check_from.Goals as goal
 pub loop-i-init : goal.loop-i-init
 loop-i-init c = (omega arith, rw c.start.ensures)
 
-pub overflow_cast-known : goal.overflow_cast-known
-overflow_cast-known c = omega (arith, c.shared_slice_known2.given c.loop-i.i)
-
-pub bounds-codes-byte : goal.bounds-codes-byte
-bounds-codes-byte c = omega (arith, c.shared_slice_known2.given c.loop-i.i)
-
 pub loop-i-preserved : goal.loop-i-preserved
 loop-i-preserved c =
-    let at = c in
-    let a = at.args in
-    (omega arith, rw c.check_byte-checked.ensures (sym (checked_next a.text.now at.loop-i.i (in_table a.codes.now) at.loop-i.checked (omega arith)) ∙ at.loop-i.invariant.1))
+    let a = c.args in
+    (omega arith, rw c.check_byte-checked.ensures (sym (checked_next a.text.now c.loop-i.i (in_table a.codes.now) c.loop-i.checked (omega arith)) ∙ c.loop-i.invariant.1))
 
 pub returns : goal.returns
 returns c =
-    let at = c in
-    let a = at.args in
-    sym (checked_end a.text.now at.loop-i.i (in_table a.codes.now) at.loop-i.checked (omega arith)) ∙ at.loop-i.invariant.1
+    let a = c.args in
+    sym (checked_end a.text.now c.loop-i.i (in_table a.codes.now) c.loop-i.checked (omega arith)) ∙ c.loop-i.invariant.1

@@ -17,61 +17,46 @@ loop-left-init c = (omega arith, omega arith, refl)
 
 pub returns-then-not-wire : goal.returns-then-not-wire
 returns-then-not-wire c =
-    let wire = c in
-    let at = wire in
-    let a = at.args in
-    let none = told_none a.text.now at.loop-left.next _ wire.wire_at-wire.ensures (not-true _ c.if-not-wire.true) in
-    sym (none_clashes (record { code = a.code; name = a.name.now }) _ (wires_none at.loop-left.left _ none).0) ∙ at.loop-left.invariant.2
+    let a = c.args in
+    let none = told_none a.text.now c.loop-left.next _ c.wire_at-wire.ensures (not-true _ c.if-not-wire.true) in
+    sym (none_clashes (record { code = a.code; name = a.name.now }) _ (wires_none c.loop-left.left _ none).0) ∙ c.loop-left.invariant.2
 
 pub overflow_add-next : goal.overflow_add-next
 overflow_add-next c =
-    let test = c in
-    let wire = test in
-    let at = wire in
-    let a = at.args in
-    let here = told_here a.text.now at.loop-left.next _ at.loop-left.invariant.1 wire.wire_at-wire.ensures (not-false _ test.if-not-wire.false) in
+    let a = c.args in
+    let here = told_here a.text.now c.loop-left.next _ c.loop-left.invariant.1 c.wire_at-wire.ensures (not-false _ c.if-not-wire.false) in
     omega (arith, here.name)
 
 pub same_name-requires : goal.same_name-requires
 same_name-requires c =
-    let test = c in
-    let wire = test in
-    let at = wire in
-    let a = at.args in
-    let here = told_here a.text.now at.loop-left.next _ at.loop-left.invariant.1 wire.wire_at-wire.ensures (not-false _ test.if-not-wire.false) in
+    let a = c.args in
+    let here = told_here a.text.now c.loop-left.next _ c.loop-left.invariant.1 c.wire_at-wire.ensures (not-false _ c.if-not-wire.false) in
     omega (arith, here.name)
 
 pub returns-then-wire-code : goal.returns-then-wire-code
 returns-then-wire-code c =
-    let test = c in
-    let wire = test in
-    let at = wire in
-    let a = at.args in
-    let here = told_here a.text.now at.loop-left.next _ at.loop-left.invariant.1 wire.wire_at-wire.ensures (not-false _ test.if-not-wire.false) in
-    let text = drop at.loop-left.next a.text.now in
-    let e : at.loop-left.left ≡ suc (at.loop-left.left - 1) = omega arith in
+    let a = c.args in
+    let here = told_here a.text.now c.loop-left.next _ c.loop-left.invariant.1 c.wire_at-wire.ensures (not-false _ c.if-not-wire.false) in
+    let text = drop c.loop-left.next a.text.now in
+    let e : c.loop-left.left ≡ suc (c.loop-left.left - 1) = omega arith in
     let w : Wire = record { code = a.code; name = a.name.now } in
-    let decided : clash_of w (wires_of (suc (at.loop-left.left - 1)) text) ≡ clash_of w (wires_of a.most (drop a.at a.text.now)) = rw (← e) at.loop-left.invariant.2 in
-    let name = same_here a.text.now at.loop-left.next _ a.name.now _ here c.same_name.ensures in
-    sym (pick_yes _ _ _ (rw (← here.code, ← name) c.if-wire-code.true)) ∙ sym (clash-next (at.loop-left.left - 1) text here.is w) ∙ decided
+    let decided : clash_of w (wires_of (suc (c.loop-left.left - 1)) text) ≡ clash_of w (wires_of a.most (drop a.at a.text.now)) = rw (← e) c.loop-left.invariant.2 in
+    let name = same_here a.text.now c.loop-left.next _ a.name.now _ here c.same_name.ensures in
+    sym (pick_yes _ _ _ (rw (← here.code, ← name) c.if-wire-code.true)) ∙ sym (clash-next (c.loop-left.left - 1) text here.is w) ∙ decided
 
 pub loop-left-preserved : goal.loop-left-preserved
 loop-left-preserved c =
-    let test = c in
-    let wire = test in
-    let at = wire in
-    let a = at.args in
-    let here = told_here a.text.now at.loop-left.next _ at.loop-left.invariant.1 wire.wire_at-wire.ensures (not-false _ test.if-not-wire.false) in
-    let text = drop at.loop-left.next a.text.now in
-    let e : at.loop-left.left ≡ suc (at.loop-left.left - 1) = omega arith in
+    let a = c.args in
+    let here = told_here a.text.now c.loop-left.next _ c.loop-left.invariant.1 c.wire_at-wire.ensures (not-false _ c.if-not-wire.false) in
+    let text = drop c.loop-left.next a.text.now in
+    let e : c.loop-left.left ≡ suc (c.loop-left.left - 1) = omega arith in
     let w : Wire = record { code = a.code; name = a.name.now } in
-    let decided : clash_of w (wires_of (suc (at.loop-left.left - 1)) text) ≡ clash_of w (wires_of a.most (drop a.at a.text.now)) = rw (← e) at.loop-left.invariant.2 in
-    let name = same_here a.text.now at.loop-left.next _ a.name.now _ here c.same_name.ensures in
-    (omega arith, here.fits, rw here.rest (sym (pick_no _ _ _ (rw (← here.code, ← name) c.if-wire-code.false)) ∙ sym (clash-next (at.loop-left.left - 1) text here.is w) ∙ decided))
+    let decided : clash_of w (wires_of (suc (c.loop-left.left - 1)) text) ≡ clash_of w (wires_of a.most (drop a.at a.text.now)) = rw (← e) c.loop-left.invariant.2 in
+    let name = same_here a.text.now c.loop-left.next _ a.name.now _ here c.same_name.ensures in
+    (omega arith, here.fits, rw here.rest (sym (pick_no _ _ _ (rw (← here.code, ← name) c.if-wire-code.false)) ∙ sym (clash-next (c.loop-left.left - 1) text here.is w) ∙ decided))
 
 pub returns : goal.returns
 returns c =
-    let at = c in
-    let a = at.args in
-    let e : at.loop-left.left ≡ 0 = omega arith in
-    sym (none_clashes (record { code = a.code; name = a.name.now }) _ (rw e (wires_zero (drop at.loop-left.next a.text.now)).0)) ∙ at.loop-left.invariant.2
+    let a = c.args in
+    let e : c.loop-left.left ≡ 0 = omega arith in
+    sym (none_clashes (record { code = a.code; name = a.name.now }) _ (rw e (wires_zero (drop c.loop-left.next a.text.now)).0)) ∙ c.loop-left.invariant.2

@@ -15,7 +15,7 @@ use Rattle.vcd_read.proofs.named.clashes.Given as goal
 abbrev pub invariant-loop-left : goal.invariant-loop-left
 invariant-loop-left l =
     (l.left ≤ l.most) × (l.next ≤ length l.text)
-    × (clash_of (record { l.code = l.code; l.name = l.name }) (wires_of l.left (drop l.next l.text)) ≡ clash_of (record { l.code = l.code; l.name = l.name }) (wires_of l.most (drop l.at l.text)))
+    × (clash_of (record { code = l.code; name = l.name }) (wires_of l.left (drop l.next l.text)) ≡ clash_of (record { code = l.code; name = l.name }) (wires_of l.most (drop l.at l.text)))
 
 abbrev pub decreases-loop-left : goal.decreases-loop-left
 decreases-loop-left l = l.left

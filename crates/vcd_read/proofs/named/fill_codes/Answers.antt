@@ -18,27 +18,21 @@ shape_of-codes-then-not-wire c = c.loop-n.invariant.2
 
 pub returns-then-not-wire : goal.returns-then-not-wire
 returns-then-not-wire c =
-    let wire = c in
-    let at = wire in
-    let a = at.args in
-    let none = told_none a.text.now at.loop-n.next _ wire.wire_at-wire.ensures (not-true _ c.if-not-wire.true) in
-    sym (none_filled _ at.loop-n.codes (wires_none (17 - at.loop-n.n) _ none).0) ∙ at.loop-n.invariant.3
+    let a = c.args in
+    let none = told_none a.text.now c.loop-n.next _ c.wire_at-wire.ensures (not-true _ c.if-not-wire.true) in
+    sym (none_filled _ c.loop-n.codes (wires_none (17 - c.loop-n.n) _ none).0) ∙ c.loop-n.invariant.3
 
 pub loop-n-preserved : goal.loop-n-preserved
 loop-n-preserved c =
-    let put = c in
-    let test = put in
-    let wire = test in
-    let at = wire in
-    let a = at.args in
-    let here = told_here a.text.now at.loop-n.next _ at.loop-n.invariant.1 wire.wire_at-wire.ensures (not-false _ test.if-not-wire.false) in
-    let text = drop at.loop-n.next a.text.now in
-    let e : 17 - at.loop-n.n ≡ suc (17 - (at.loop-n.n + 1)) = omega arith in
-    let decided = rw e at at.loop-n.invariant.3 in (
+    let a = c.args in
+    let here = told_here a.text.now c.loop-n.next _ c.loop-n.invariant.1 c.wire_at-wire.ensures (not-false _ c.if-not-wire.false) in
+    let text = drop c.loop-n.next a.text.now in
+    let e : 17 - c.loop-n.n ≡ suc (17 - (c.loop-n.n + 1)) = omega arith in
+    let decided = rw e at c.loop-n.invariant.3 in (
       omega arith,
       here.fits,
-      rw put.put.ensures (simp length-set at.loop-n.invariant.2),
-      rw (here.rest, put.put.ensures, here.code) (sym (filled_next (17 - (at.loop-n.n + 1)) text here.is at.loop-n.codes) ∙ decided),
+      rw c.put.ensures (simp length-set c.loop-n.invariant.2),
+      rw (here.rest, c.put.ensures, here.code) (sym (filled_next (17 - (c.loop-n.n + 1)) text here.is c.loop-n.codes) ∙ decided),
     )
 
 pub shape_of-codes : goal.shape_of-codes
@@ -46,7 +40,6 @@ shape_of-codes c = c.loop-n.invariant.2
 
 pub returns : goal.returns
 returns c =
-    let at = c in
-    let a = at.args in
-    let e : 17 - at.loop-n.n ≡ 0 = omega arith in
-    sym (none_filled _ at.loop-n.codes (rw e (wires_zero (drop at.loop-n.next a.text.now)).0)) ∙ at.loop-n.invariant.3
+    let a = c.args in
+    let e : 17 - c.loop-n.n ≡ 0 = omega arith in
+    sym (none_filled _ c.loop-n.codes (rw e (wires_zero (drop c.loop-n.next a.text.now)).0)) ∙ c.loop-n.invariant.3

@@ -8,25 +8,18 @@ use Rattle.vcd_read.proofs.scanning.scan.Goals as goal
 
 pub returns-then-not-header : goal.returns-then-not-header
 returns-then-not-header c =
-    let head = c in
-    let x = head.args in
-    (c.refuse.ensures ∙ not_inside x.text.now x.name_a.now x.name_b.now (rw (← head.read_header-header.ensures.0) (not-true _ c.if-not-header.true)), rw c.refuse.ensures (omega arith))
+    let x = c.args in
+    (c.refuse.ensures ∙ not_inside x.text.now x.name_a.now x.name_b.now (rw (← c.read_header-header.ensures.0) (not-true _ c.if-not-header.true)), rw c.refuse.ensures (omega arith))
 
 pub fill_codes-requires : goal.fill_codes-requires
 fill_codes-requires c =
-    let test = c in
-    let head = test in
-    let x = head.args in
-    header_open x.text.now x.name_a.now x.name_b.now (rw (← head.read_header-header.ensures.0) (not-false _ test.if-not-header.false))
+    let x = c.args in
+    header_open x.text.now x.name_a.now x.name_b.now (rw (← c.read_header-header.ensures.0) (not-false _ c.if-not-header.false))
 
 pub returns : goal.returns
 returns c =
-    let check = c in
-    let fill = check in
-    let test = fill in
-    let head = test in
-    let x = head.args in
-    let whole = is_inside x.text.now x.name_a.now x.name_b.now _ _ _ head.read_header-header.ensures.0 (not-false _ test.if-not-header.false) fill.fill_codes.ensures
-    check.check_from-checked.ensures in
-    let b = judged_body head.read_header-header.result check.check_from-checked.result in
-    (c.judge.ensures ∙ whole, rw c.judge.ensures (omega (arith, b, head.read_header-header.ensures.1)))
+    let x = c.args in
+    let whole = is_inside x.text.now x.name_a.now x.name_b.now _ _ _ c.read_header-header.ensures.0 (not-false _ c.if-not-header.false) c.fill_codes.ensures
+    c.check_from-checked.ensures in
+    let b = judged_body c.read_header-header.result c.check_from-checked.result in
+    (c.judge.ensures ∙ whole, rw c.judge.ensures (omega (arith, b, c.read_header-header.ensures.1)))

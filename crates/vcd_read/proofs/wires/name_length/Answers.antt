@@ -3,7 +3,6 @@ use Prim.Native.Nat.{◌+◌, ◌-◌, ◌≤◌}
 use mathlib.Core.Path.{◌≡◌, sym, ◌∙◌}
 use native.Mathlib.Omega.{arith}
 use lib.ListN.{length, drop}
-use borrow.Author.Tests.{not-true, not-false}
 use Rattle.vcd_read.specs.Wires.{name_of}
 use Rattle.vcd_read.proofs.Laws.Starts.{name-over, name-ends, name-on, name-full}
 use borrow.Author.Rules.{rules}
@@ -17,32 +16,28 @@ loop-n-init c =
 
 pub returns-then-text-at : goal.returns-then-text-at
 returns-then-text-at c =
-    let at = c in
-    let a = at.args in
-    let z = name-over a.text.now a.at at.loop-n.n (omega arith) in
-    let i = at.loop-n.invariant.1 in
+    let a = c.args in
+    let z = name-over a.text.now a.at c.loop-n.n (omega arith) in
+    let i = c.loop-n.invariant.1 in
     omega arith
 
 pub returns-then-not-is_visible : goal.returns-then-not-is_visible
 returns-then-not-is_visible c =
-    let at = c in
-    let a = at.args in
-    let z = name-ends a.text.now a.at at.loop-n.n (omega arith) (omega arith) (sym c.is_visible.ensures ∙ not-true _ c.if-not-is_visible.true) in
-    let i = at.loop-n.invariant.1 in
+    let a = c.args in
+    let z = name-ends a.text.now a.at c.loop-n.n (omega arith) (omega arith) (sym c.is_visible.ensures ∙ c.if-not-is_visible.true) in
+    let i = c.loop-n.invariant.1 in
     omega arith
 
 pub loop-n-preserved : goal.loop-n-preserved
 loop-n-preserved c =
-    let at = c in
-    let a = at.args in
-    let z = name-on a.text.now a.at at.loop-n.n (omega arith) (omega arith) (sym c.is_visible.ensures ∙ not-false _ c.if-not-is_visible.false) in
-    let i = at.loop-n.invariant.1 in
+    let a = c.args in
+    let z = name-on a.text.now a.at c.loop-n.n (omega arith) (omega arith) (sym c.is_visible.ensures ∙ c.if-not-is_visible.false) in
+    let i = c.loop-n.invariant.1 in
     (omega arith, omega arith)
 
 pub returns : goal.returns
 returns c =
-    let at = c in
-    let a = at.args in
-    let z = name-full a.text.now a.at at.loop-n.n (omega arith) in
-    let i = at.loop-n.invariant.1 in
+    let a = c.args in
+    let z = name-full a.text.now a.at c.loop-n.n (omega arith) in
+    let i = c.loop-n.invariant.1 in
     omega arith

@@ -16,24 +16,20 @@ loop-i-init c =
 
 pub returns-then-text-at : goal.returns-then-text-at
 returns-then-text-at c =
-    let at = c in
-    let a = at.args in
-    sym (starts-over a.text.now a.words.now a.at at.loop-i.i (omega arith) (omega arith)) ∙ at.loop-i.invariant.1
+    let a = c.args in
+    sym (starts-over a.text.now a.words.now a.at c.loop-i.i (omega arith) (omega arith)) ∙ c.loop-i.invariant.1
 
 pub returns-then-words-i : goal.returns-then-words-i
 returns-then-words-i c =
-    let at = c in
-    let a = at.args in
-    sym (starts_other a.text.now a.words.now a.at at.loop-i.i (omega arith) (omega arith) c.if-words-i.true) ∙ at.loop-i.invariant.1
+    let a = c.args in
+    sym (starts_other a.text.now a.words.now a.at c.loop-i.i (omega arith) (omega arith) c.if-words-i.true) ∙ c.loop-i.invariant.1
 
 pub loop-i-preserved : goal.loop-i-preserved
 loop-i-preserved c =
-    let at = c in
-    let a = at.args in
-    (omega arith, sym (starts-on a.text.now a.words.now a.at at.loop-i.i (omega arith) (omega arith) c.if-words-i.false) ∙ at.loop-i.invariant.1)
+    let a = c.args in
+    (omega arith, sym (starts-on a.text.now a.words.now a.at c.loop-i.i (omega arith) (omega arith) c.if-words-i.false) ∙ c.loop-i.invariant.1)
 
 pub returns : goal.returns
 returns c =
-    let at = c in
-    let a = at.args in
-    sym (starts-all a.text.now a.words.now a.at at.loop-i.i (omega arith)) ∙ at.loop-i.invariant.1
+    let a = c.args in
+    sym (starts-all a.text.now a.words.now a.at c.loop-i.i (omega arith)) ∙ c.loop-i.invariant.1

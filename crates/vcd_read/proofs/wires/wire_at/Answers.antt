@@ -7,7 +7,6 @@ use native.Mathlib.Omega.{arith}
 use lib.Dec.{eqb}
 use lib.ListN.{length, drop, get_or, length-drop}
 use lib.Seq.{get_or-drop, drop-drop}
-use borrow.Author.Tests.{not-true, not-false}
 use Rattle.text.specs.Bytes.{bytes_of}
 use Rattle.vcd_text.specs.Header.{line_of}
 use Rattle.vcd_read.specs.Wires.{starts, visible, name_of, end_words, name_here}
@@ -39,10 +38,9 @@ end_is l at n t h =
 pub returns-then-not-starts_at : goal.returns-then-not-starts_at
 unfolding bytes_of line_of
 returns-then-not-starts_at c =
-    let test = c in
-    let a = test.args in
+    let a = c.args in
     let text = drop a.at a.text.now in
-    c.no_wire.ensures ∙ sym (other_words text a.at (sym test.starts_at.ensures ∙ not-true _ test.if-not-starts_at.true))
+    c.no_wire.ensures ∙ sym (other_words text a.at (sym c.starts_at.ensures ∙ c.if-not-starts_at.true))
 
 pub returns-then-text-at-lt14 : goal.returns-then-text-at-lt14
 returns-then-text-at-lt14 c =
@@ -52,67 +50,53 @@ returns-then-text-at-lt14 c =
 
 pub returns-then-not-is_visible-blank : goal.returns-then-not-is_visible-blank
 returns-then-not-is_visible-blank c =
-    let test = c in
-    let code = test in
-    let a = code.args in
-    c.no_wire-then-not-is_visible-blank.ensures ∙ sym (no_code (drop a.at a.text.now) a.at (code_is a.text.now a.at _ false code.is_visible.ensures (not-true _ test.if-not-is_visible-blank.true)))
+    let a = c.args in
+    c.no_wire-then-not-is_visible-blank.ensures ∙ sym (no_code (drop a.at a.text.now) a.at (code_is a.text.now a.at _ false c.is_visible.ensures c.if-not-is_visible-blank.true))
 
 pub returns-then-not-is_named : goal.returns-then-not-is_named
 returns-then-not-is_named c =
-    let test = c in
-    let name = test in
-    let a = name.args in
-    let e = name_is a.text.now a.at _ name.name_length-length.ensures in
-    c.no_wire-then-not-is_named.ensures ∙ sym (no_name (drop a.at a.text.now) a.at (rw e (sym test.is_named.ensures ∙ not-true _ test.if-not-is_named.true)))
+    let a = c.args in
+    let e = name_is a.text.now a.at _ c.name_length-length.ensures in
+    c.no_wire-then-not-is_named.ensures ∙ sym (no_name (drop a.at a.text.now) a.at (rw e (sym c.is_named.ensures ∙ c.if-not-is_named.true)))
 
 pub overflow_add-at-3 : goal.overflow_add-at-3
 overflow_add-at-3 c =
-    let name = c in
-    let a = name.args in
-    let b = end_within a.text.now a.at _ (omega arith) name.name_length-length.ensures in
+    let a = c.args in
+    let b = end_within a.text.now a.at _ (omega arith) c.name_length-length.ensures in
     omega arith
 
 pub starts_at-requires-2 : goal.starts_at-requires-2
 starts_at-requires-2 c =
-    let name = c in
-    let a = name.args in
-    end_within a.text.now a.at _ (omega arith) name.name_length-length.ensures
+    let a = c.args in
+    end_within a.text.now a.at _ (omega arith) c.name_length-length.ensures
 
 pub returns-then-not-starts_at-2 : goal.returns-then-not-starts_at-2
 unfolding bytes_of line_of
 returns-then-not-starts_at-2 c =
-    let test = c in
-    let name = test in
-    let a = name.args in
-    let e = name_is a.text.now a.at _ name.name_length-length.ensures in
+    let a = c.args in
+    let e = name_is a.text.now a.at _ c.name_length-length.ensures in
     c.no_wire-then-not-starts_at-2.ensures
     ∙ sym (no_end (drop a.at a.text.now) a.at
-    (rw e (end_is a.text.now a.at name.name_length-length.result false (sym test.starts_at-2.ensures ∙ not-true _ test.if-not-starts_at-2.true))))
+    (rw e (end_is a.text.now a.at c.name_length-length.result false (sym c.starts_at-2.ensures ∙ c.if-not-starts_at-2.true))))
 
 pub overflow_add-result : goal.overflow_add-result
 unfolding bytes_of line_of
 overflow_add-result c =
-    let name = c in
-    let a = name.args in
-    let h = sym c.starts_at-2.ensures ∙ not-false _ c.if-not-starts_at-2.false in
-    let b = line_within a.text.now a.at name.name_length-length.result h in
+    let a = c.args in
+    let h = sym c.starts_at-2.ensures ∙ c.if-not-starts_at-2.false in
+    let b = line_within a.text.now a.at c.name_length-length.result h in
     omega arith
 
 pub returns : goal.returns
 unfolding bytes_of line_of
 returns c =
-    let test = c in
-    let named = test in
-    let name = named in
-    let code = name in
-    let words = code in
-    let a = words.args in
+    let a = c.args in
     let text = drop a.at a.text.now in
-    let e = name_is a.text.now a.at _ name.name_length-length.ensures in
+    let e = name_is a.text.now a.at _ c.name_length-length.ensures in
     sym (wire_here_lem text a.at
     (wire_is text
-    (sym words.starts_at.ensures ∙ not-false _ words.if-not-starts_at.false)
-    (code_is a.text.now a.at _ true code.is_visible.ensures (not-false _ code.if-not-is_visible-blank.false))
-    (rw e (sym named.is_named.ensures ∙ not-false _ named.if-not-is_named.false))
-    (rw e (end_is a.text.now a.at name.name_length-length.result true (sym test.starts_at-2.ensures ∙ not-false _ test.if-not-starts_at-2.false))))
+    (sym c.starts_at.ensures ∙ c.if-not-starts_at.false)
+    (code_is a.text.now a.at _ true c.is_visible.ensures c.if-not-is_visible-blank.false)
+    (rw e (sym c.is_named.ensures ∙ c.if-not-is_named.false))
+    (rw e (end_is a.text.now a.at c.name_length-length.result true (sym c.starts_at-2.ensures ∙ c.if-not-starts_at-2.false))))
     ∙ rw (e, get_or-drop a.at a.text.now 12 0))

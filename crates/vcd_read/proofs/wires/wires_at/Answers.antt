@@ -25,38 +25,33 @@ loop-count-init c = (omega arith, omega arith, omega arith, refl)
 
 pub returns-then-not-wire : goal.returns-then-not-wire
 returns-then-not-wire c =
-    let wire = c in
-    let at = wire in
-    let text = drop at.loop-count.end at.args.text.now in
-    let none = sym (ap (λ (w : WireAt). w.here) wire.wire_at-wire.ensures ∙ here_is text at.loop-count.end) ∙ not-true _ c.if-not-wire.true in
-    let w = wires_none (17 - at.loop-count.count) text none in
+    let text = drop c.loop-count.end c.args.text.now in
+    let none = sym (ap (λ (w : WireAt). w.here) c.wire_at-wire.ensures ∙ here_is text c.loop-count.end) ∙ not-true _ c.if-not-wire.true in
+    let w = wires_none (17 - c.loop-count.count) text none in
     let l = ap length w.0 in
     let z = w.1 in
-    (ends at.loop-count.invariant.2 at.loop-count.invariant.3 l z, at.loop-count.invariant.1)
+    (ends c.loop-count.invariant.2 c.loop-count.invariant.3 l z, c.loop-count.invariant.1)
 
 pub loop-count-preserved : goal.loop-count-preserved
 loop-count-preserved c =
-    let wire = c in
-    let at = wire in
-    let text = drop at.loop-count.end at.args.text.now in
-    let here = sym (ap (λ (w : WireAt). w.here) wire.wire_at-wire.ensures ∙ here_is text at.loop-count.end) ∙ not-false _ c.if-not-wire.false in
-    let e : 17 - at.loop-count.count ≡ suc (17 - (at.loop-count.count + 1)) = omega arith in
-    let w = wires_next (17 - (at.loop-count.count + 1)) text here in
-    let f = ap (λ (w : WireAt). w.end) (wire.wire_at-wire.ensures ∙ wire_here_lem text at.loop-count.end here) in
-    let d : drop (at.loop-count.end + wire_end text) at.args.text.now ≡ drop (wire_end text) text
-    = sym (drop-drop (wire_end text) at.loop-count.end at.args.text.now) in
-    let many = rw (e, w.0) at at.loop-count.invariant.2 in
-    let far = rw (e, w.1) at at.loop-count.invariant.3 in
+    let text = drop c.loop-count.end c.args.text.now in
+    let here = sym (ap (λ (w : WireAt). w.here) c.wire_at-wire.ensures ∙ here_is text c.loop-count.end) ∙ not-false _ c.if-not-wire.false in
+    let e : 17 - c.loop-count.count ≡ suc (17 - (c.loop-count.count + 1)) = omega arith in
+    let w = wires_next (17 - (c.loop-count.count + 1)) text here in
+    let f = ap (λ (w : WireAt). w.end) (c.wire_at-wire.ensures ∙ wire_here_lem text c.loop-count.end here) in
+    let d : drop (c.loop-count.end + wire_end text) c.args.text.now ≡ drop (wire_end text) text
+    = sym (drop-drop (wire_end text) c.loop-count.end c.args.text.now) in
+    let many = rw (e, w.0) at c.loop-count.invariant.2 in
+    let far = rw (e, w.1) at c.loop-count.invariant.3 in
     let inside = wire_within text here in
-    let left = length-drop at.loop-count.end at.args.text.now in
+    let left = length-drop c.loop-count.end c.args.text.now in
     rw (f, d) (omega arith, omega arith, omega arith, omega arith)
 
 pub returns : goal.returns
 returns c =
-    let at = c in
-    let text = drop at.loop-count.end at.args.text.now in
-    let e : 17 - at.loop-count.count ≡ 0 = omega arith in
+    let text = drop c.loop-count.end c.args.text.now in
+    let e : 17 - c.loop-count.count ≡ 0 = omega arith in
     let w = wires_zero text in
-    let l : length (wires_of (17 - at.loop-count.count) text) ≡ 0 = rw e (ap length w.0) in
-    let z : wires_end (17 - at.loop-count.count) text ≡ 0 = rw e w.1 in
-    (ends at.loop-count.invariant.2 at.loop-count.invariant.3 l z, at.loop-count.invariant.1)
+    let l : length (wires_of (17 - c.loop-count.count) text) ≡ 0 = rw e (ap length w.0) in
+    let z : wires_end (17 - c.loop-count.count) text ≡ 0 = rw e w.1 in
+    (ends c.loop-count.invariant.2 c.loop-count.invariant.3 l z, c.loop-count.invariant.1)

@@ -9,36 +9,26 @@ use Rattle.vcd_text.proofs.lines.put_changes.Goals as goal
 
 pub put_values-requires : goal.put_values-requires
 put_values-requires c =
-    let time = c in
-    let start = time in
-    omega (arith, time_within start.args.tick, time.put_time-begun.ensures.ends, start.requires)
+    omega (arith, time_within c.args.tick, c.put_time-begun.ensures.ends, c.requires)
 
 pub returns-then-tick-eq0 : goal.returns-then-tick-eq0
 returns-then-tick-eq0 c =
-    let values = c in
-    let time = values in
-    let a = time.args in
-    puts_as (first_changes a.tick a a.values time.if-tick-eq0.true)
-    (puts_then time.put_time-begun.ensures values.put_values.ensures)
+    let a = c.args in
+    puts_as (first_changes a.tick a.before a.values c.if-tick-eq0.true)
+    (puts_then c.put_time-begun.ensures c.put_values.ensures)
 
 pub returns-then-before-values : goal.returns-then-before-values
 returns-then-before-values c =
     let a = c.args in
-    puts_as (sym (no_changes a.tick a a.values c.if-tick-eq0.false c.if-before-values.true)) (puts_none a.at a.space.now)
+    puts_as (sym (no_changes a.tick a.before a.values c.if-tick-eq0.false c.if-before-values.true)) (puts_none a.at a.space.now)
 
 pub put_values-requires-2 : goal.put_values-requires-2
 put_values-requires-2 c =
-    let time = c in
-    let start = time in
-    omega (arith, time_within start.args.tick, time.put_time-begun-2.ensures.ends, start.requires)
+    omega (arith, time_within c.args.tick, c.put_time-begun-2.ensures.ends, c.requires)
 
 pub returns : goal.returns
 returns c =
-    let values = c in
-    let time = values in
-    let test = time in
-    let start = test in
-    let a = start.args in
+    let a = c.args in
     puts_as
-    (some_changes a.tick a a.values test.if-tick-eq0.false test.if-before-values.false start.requires.1 start.requires.2)
-    (puts_then time.put_time-begun-2.ensures values.put_values-2.ensures)
+    (some_changes a.tick a.before a.values c.if-tick-eq0.false c.if-before-values.false c.requires.1 c.requires.2)
+    (puts_then c.put_time-begun-2.ensures c.put_values-2.ensures)

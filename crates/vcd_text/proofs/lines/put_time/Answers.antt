@@ -12,17 +12,11 @@ use Rattle.vcd_text.proofs.lines.put_time.Goals as goal
 
 pub overflow_add-result : goal.overflow_add-result
 overflow_add-result c =
-    let number = c in
-    let start = number in
-    omega (arith, decimal_within 20 number.tick_time.result, number.put_decimal-end.ensures.ends, start.requires)
+    omega (arith, decimal_within 20 c.tick_time.result, c.put_decimal-end.ensures.ends, c.requires)
 
 pub returns : goal.returns
 unfolding line_text
 returns c =
-    let last = c in
-    let number = last in
-    let time = number in
-    let first = time in
-    puts_as (ap (λ (n : ℕ). 35 ∷ decimal_of 20 n ++ 10 ∷ []) time.tick_time.ensures)
-    (puts_then (puts_one _ _ _ _ _ refl first.put.ensures)
-    (puts_then number.put_decimal-end.ensures (puts_one _ _ _ _ _ refl last.put-2.ensures)))
+    puts_as (ap (λ (n : ℕ). 35 ∷ decimal_of 20 n ++ 10 ∷ []) c.tick_time.ensures)
+    (puts_then (puts_one _ _ _ _ _ refl c.put.ensures)
+    (puts_then c.put_decimal-end.ensures (puts_one _ _ _ _ _ refl c.put-2.ensures)))

@@ -12,14 +12,10 @@ use Rattle.vcd_text.proofs.lines.put_value.Goals as goal
 pub returns-then-changed : goal.returns-then-changed
 unfolding line_text
 returns-then-changed c =
-    let last = c in
-    let second = last in
-    let first = second in
-    let digit = first in
-    let a = digit.args in
-    puts_as (ap (λ (d : ℕ). d ∷ a.code ∷ 10 ∷ []) digit.level_digit.ensures ∙ sym (pick_yes a.changed _ _ digit.if-changed.true))
-    (puts_then (puts_one _ _ _ _ _ refl first.put.ensures)
-    (puts_then (puts_one _ _ (a.at + 2) _ _ (omega arith) second.put-then-changed.ensures) (puts_one _ _ _ _ _ (omega arith) last.put-then-changed-2.ensures)))
+    let a = c.args in
+    puts_as (ap (λ (d : ℕ). d ∷ a.code ∷ 10 ∷ []) c.level_digit.ensures ∙ sym (pick_yes a.changed _ _ c.if-changed.true))
+    (puts_then (puts_one _ _ _ _ _ refl c.put.ensures)
+    (puts_then (puts_one _ _ (a.at + 2) _ _ (omega arith) c.put-then-changed.ensures) (puts_one _ _ _ _ _ (omega arith) c.put-then-changed-2.ensures)))
 
 pub returns : goal.returns
 returns c =

@@ -29,17 +29,15 @@ put_value-next-requires c = omega (arith, c.requires)
 
 pub loop-code-preserved : goal.loop-code-preserved
 loop-code-preserved c =
-    let put = c in
-    let at = put in
-    let a = at.args in
-    let w : 44 - at.loop-code.code ≡ suc (44 - (at.loop-code.code + 1)) = omega arith in
-    let p = put.put_value-next.ensures in
-    let l = value-ends (a.none || not (eqb (at.loop-code.old % 2) (at.loop-code.new % 2))) at.loop-code.code (eqb (at.loop-code.new % 2) 1) p in (
+    let a = c.args in
+    let w : 44 - c.loop-code.code ≡ suc (44 - (c.loop-code.code + 1)) = omega arith in
+    let p = c.put_value-next.ensures in
+    let l = value-ends (a.none || not (eqb (c.loop-code.old % 2) (c.loop-code.new % 2))) c.loop-code.code (eqb (c.loop-code.new % 2) 1) p in (
       omega arith,
       omega arith,
       omega arith,
-      puts_length p ∙ at.loop-code.invariant.3,
-      left_then (left_as (next_wire a.none (44 - (at.loop-code.code + 1)) at.loop-code.code at.loop-code.old at.loop-code.new) (rw w at at.loop-code.invariant.4)) p,
+      puts_length p ∙ c.loop-code.invariant.3,
+      left_then (left_as (next_wire a.none (44 - (c.loop-code.code + 1)) c.loop-code.code c.loop-code.old c.loop-code.new) (rw w at c.loop-code.invariant.4)) p,
     )
 
 pub shape_of-space : goal.shape_of-space
@@ -47,6 +45,5 @@ shape_of-space c = c.loop-code.invariant.3
 
 pub returns : goal.returns
 returns c =
-    let at = c in
-    let e : 44 - at.loop-code.code ≡ 0 = omega arith in
-    left_none (left_as (no_wire _ _ _) (rw e at at.loop-code.invariant.4))
+    let e : 44 - c.loop-code.code ≡ 0 = omega arith in
+    left_none (left_as (no_wire _ _ _) (rw e at c.loop-code.invariant.4))
