@@ -26,7 +26,7 @@ use Rattle.front_side_clocks.specs.Clocking.{transmitter_pulsed, echo_taken, sid
 use Rattle.front_side_clocks.proofs.Laws.Hears.{hears_nothing}
 use Rattle.front.specs.declared.front.Front.{Front}
 use Rattle.front.specs.Front.{with_sides}
-use Rattle.front_clocks.specs.Clocking.{counted_of, clocked_with, clocked_of as frontClocked, ticked_of}
+use Rattle.front_clocks.specs.Clocking.{counted_of, clocked_with, clocked_of as front_clocked, ticked_of}
 use Rattle.events.specs.declared.events.Event.TheVariants.{Tick}
 use Rattle.front_events.specs.FrontEvents.{front_stepped}
 use Rattle.chip_device.specs.declared.device.Device.{Device}

@@ -29,14 +29,6 @@ use Rattle.chip_fast.specs.Passing.{front_room, counts_passed, passed_of}
 use Rattle.chip_fast.specs.Fast.{is_tick, at_rest, full_of, sound_tick, sound_answer}
 use Rattle.chip_fast.proofs.Laws.Passing.{device_on, written_with, passed_written, lines_stay}
 
-pub unless : (t : Bool) → not t ≡ true → t ≡ false
-unless true e = absurd (true≢false (sym e))
-unless false e = refl
-
-pub until : (t : Bool) → not t ≡ false → t ≡ true
-until true e = refl
-until false e = absurd (true≢false e)
-
 pub only_tick : (e : Event) → is_tick e ≡ true → e ≡ Tick
 unfolding is_tick
 only_tick ChipReset h = absurd (true≢false (sym h))

@@ -2,11 +2,5 @@
 use Prim.{tt}
 use Rattle.chip_answers.proofs.answers.isr_of.Goals as goal
 
-pub has_chosen_change-requires : goal.has_chosen_change-requires
-has_chosen_change-requires c = tt
-
-pub interrupt_status-requires : goal.interrupt_status-requires
-interrupt_status-requires c = tt
-
 pub returns : goal.returns
 returns c = simp (c.interrupt_status.ensures, c.has_chosen_change.ensures)

@@ -6,11 +6,11 @@ use Rattle.chip_answers.proofs.answers.register_fresh.Goals as goal
 
 pub returns-in-3 : goal.returns-in-3
 unfolding register_fresh pick
-returns-in-3 c = simp c.in-3.keys1
+returns-in-3 c = simp c.in-3.is
 
 pub returns-in-11 : goal.returns-in-11
 unfolding register_fresh pick
-returns-in-11 c = simp c.in-11.keys2
+returns-in-11 c = simp c.in-11.is
 
 pub returns-in_default : goal.returns-in_default
 unfolding register_fresh

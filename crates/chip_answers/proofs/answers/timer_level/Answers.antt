@@ -4,19 +4,10 @@ use Rattle.format.proofs.Laws.{steps}
 use Rattle.chip_answers.specs.Answers.{timer_level}
 use Rattle.chip_answers.proofs.answers.timer_level.Goals as goal
 
-pub mode_of-requires : goal.mode_of-requires
-mode_of-requires c = tt
-
-pub is_timer-requires : goal.is_timer-requires
-is_timer-requires c = tt
-
 pub returns-then-is_timer : goal.returns-then-is_timer
 unfolding timer_level
-returns-then-is_timer c = simp (← c.is_timer.ensures, ← c.Mode-of.ensures) (search steps)
-
-pub has_bit-requires : goal.has_bit-requires
-has_bit-requires c = tt
+returns-then-is_timer c = simp (← c.is_timer.ensures, ← c.mode_of.ensures) (search steps)
 
 pub returns : goal.returns
 unfolding timer_level
-returns c = simp (c.has_bit.ensures, ← c.is_timer.ensures, ← c.Mode-of.ensures) (search steps)
+returns c = simp (c.has_bit.ensures, ← c.is_timer.ensures, ← c.mode_of.ensures) (search steps)

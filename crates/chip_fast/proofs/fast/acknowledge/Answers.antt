@@ -5,15 +5,6 @@ use Rattle.chip_answers.specs.declared.answers.Lines.{Lines}
 use Rattle.chip_fast.proofs.Laws.Ticked.{unsound_refused, ack_asserted, ack_unasserted}
 use Rattle.chip_fast.proofs.fast.acknowledge.Goals as goal
 
-pub refuse_unsound-answer-requires : goal.refuse_unsound-answer-requires
-refuse_unsound-answer-requires c = tt
-
-pub is_sound-requires : goal.is_sound-requires
-is_sound-requires c = tt
-
-pub device_lines-lines-requires : goal.device_lines-lines-requires
-device_lines-lines-requires c = tt
-
 pub returns-then-lines : goal.returns-then-lines
 returns-then-lines c =
     let sound = sym c.is_sound.ensures ∙ c.if-is_sound.true in

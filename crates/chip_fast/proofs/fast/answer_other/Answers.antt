@@ -3,14 +3,8 @@ use Prim.{tt}
 use borrow.Author.Rules.{rules}
 use Rattle.chip_fast.proofs.fast.answer_other.Goals as goal
 
-pub acknowledge-requires : goal.acknowledge-requires
-acknowledge-requires c = tt
-
-pub step-requires : goal.step-requires
-step-requires c = tt
-
 pub returns-in-Acknowledge : goal.returns-in-Acknowledge
-returns-in-Acknowledge c = simp (c.acknowledge.ensures, ← c.enum_told.given.1)
+returns-in-Acknowledge c = simp (c.acknowledge.ensures, ← c.in-Acknowledge.is)
 
 pub returns-in_default : goal.returns-in_default
 returns-in_default c = c.step.ensures

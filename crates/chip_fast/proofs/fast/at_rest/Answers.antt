@@ -3,9 +3,6 @@ use Prim.{tt}
 use Rattle.chip_fast.specs.Fast.{at_rest}
 use Rattle.chip_fast.proofs.fast.at_rest.Goals as goal
 
-pub device_lines-requires : goal.device_lines-requires
-device_lines-requires c = tt
-
 pub returns : goal.returns
 unfolding at_rest
 returns c = simp c.device_lines.ensures

@@ -4,9 +4,6 @@ use Rattle.chip_step.specs.Chip.{refusal_lines}
 use Rattle.format.specs.Pick.{pick}
 use Rattle.chip_fast.proofs.fast.refuse_unsound.Goals as goal
 
-pub no_lines-requires : goal.no_lines-requires
-no_lines-requires c = tt
-
 pub returns : goal.returns
 unfolding refusal_lines pick
 returns c = simp c.no_lines.ensures

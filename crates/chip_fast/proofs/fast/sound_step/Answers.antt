@@ -4,18 +4,9 @@ use Rattle.format.proofs.Laws.{steps}
 use Rattle.chip_fast.specs.Fast.{sound_answer}
 use Rattle.chip_fast.proofs.fast.sound_step.Goals as goal
 
-pub is_tick-requires : goal.is_tick-requires
-is_tick-requires c = tt
-
-pub tick_sound-requires : goal.tick_sound-requires
-tick_sound-requires c = tt
-
 pub returns-then-is_tick : goal.returns-then-is_tick
 unfolding sound_answer
 returns-then-is_tick c = simp (c.tick_sound.ensures, ← c.is_tick.ensures) (search steps)
-
-pub answer_other-requires : goal.answer_other-requires
-answer_other-requires c = tt
 
 pub returns : goal.returns
 unfolding sound_answer

@@ -6,24 +6,6 @@ use borrow.Author.Tests.{ltb-true}
 use Rattle.chip_fast.proofs.Laws.Ticked.{still_written, full_tick}
 use Rattle.chip_fast.proofs.fast.tick_sound.Goals as goal
 
-pub refuse_unsound-answer-requires : goal.refuse_unsound-answer-requires
-refuse_unsound-answer-requires c = tt
-
-pub has_room-requires : goal.has_room-requires
-has_room-requires c = tt
-
-pub pass_counts-counts-requires : goal.pass_counts-counts-requires
-pass_counts-counts-requires c = tt
-
-pub device_lines-lines-requires : goal.device_lines-lines-requires
-device_lines-lines-requires c = tt
-
-pub tick_fully-requires : goal.tick_fully-requires
-tick_fully-requires c = tt
-
-pub at_rest-full-requires : goal.at_rest-full-requires
-at_rest-full-requires c = tt
-
 pub returns-then-has_room : goal.returns-then-has_room
 returns-then-has_room c =
     let room = ltb-true 0 _ (sym c.has_room.ensures ∙ c.if-has_room.true) in

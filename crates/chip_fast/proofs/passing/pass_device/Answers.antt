@@ -4,8 +4,5 @@ use borrow.Author.Rules.{rules}
 use Rattle.chip_fast.proofs.Laws.Passing.{passed_written}
 use Rattle.chip_fast.proofs.passing.pass_device.Goals as goal
 
-pub pass_counts-counts-requires : goal.pass_counts-counts-requires
-pass_counts-counts-requires c = tt
-
 pub returns : goal.returns
 returns c = passed_written _ _ _ c.pass_counts-counts.ensures

@@ -6,24 +6,24 @@ use Rattle.chip_refusals.proofs.rows.is_forbidden_read.Goals as goal
 
 pub returns-in-ChipReset : goal.returns-in-ChipReset
 unfolding forbidden_read pick
-returns-in-ChipReset c = simp c.enum_told.given.1
+returns-in-ChipReset c = simp c.in-ChipReset.is
 
 pub returns-in-Read : goal.returns-in-Read
 unfolding forbidden_read pick
-returns-in-Read c = simp c.event.given.1
+returns-in-Read c = simp c.in-Read.is
 
 pub returns-in-Write : goal.returns-in-Write
 unfolding forbidden_read pick
-returns-in-Write c = simp c.event2.given.1
+returns-in-Write c = simp c.in-Write.is
 
 pub returns-in-Acknowledge : goal.returns-in-Acknowledge
 unfolding forbidden_read pick
-returns-in-Acknowledge c = simp c.enum_told2.given.1
+returns-in-Acknowledge c = simp c.in-Acknowledge.is
 
 pub returns-in-Pins : goal.returns-in-Pins
 unfolding forbidden_read pick
-returns-in-Pins c = simp c.event3.given.1
+returns-in-Pins c = simp c.in-Pins.is
 
 pub returns-in-Tick : goal.returns-in-Tick
 unfolding forbidden_read pick
-returns-in-Tick c = simp c.enum_told3.given.1
+returns-in-Tick c = simp c.in-Tick.is

@@ -11,14 +11,11 @@ returns-then-sampler-gt4 c = sym (and_no _ _ (lt-leb _ _ c.if-sampler-gt4.true))
 pub returns-then-sampler-gt15 : goal.returns-then-sampler-gt15
 returns-then-sampler-gt15 c = sym (and_yes _ _ (le-leb _ _ c.if-sampler-gt4.false) ∙ and_no _ _ (lt-leb _ _ c.if-sampler-gt15.true))
 
-pub setting_in_range-requires : goal.setting_in_range-requires
-setting_in_range-requires c = tt
-
 pub returns-then-not-setting_in_range : goal.returns-then-not-setting_in_range
-returns-then-not-setting_in_range c = sym (and_yes _ _ (le-leb _ _ c.if-sampler-gt4.false) ∙ and_yes _ _ (le-leb _ _ c.if-sampler-gt15.false) ∙ and_no _ _ (sym c.setting_in_range.ensures ∙ not-true _ c.if-not-setting_in_range.true))
+returns-then-not-setting_in_range c = sym (and_yes _ _ (le-leb _ _ c.if-sampler-gt4.false) ∙ and_yes _ _ (le-leb _ _ c.if-sampler-gt15.false) ∙ and_no _ _ (sym c.setting_in_range.ensures ∙ c.if-not-setting_in_range.true))
 
 pub returns-then-sampler-gt9 : goal.returns-then-sampler-gt9
-returns-then-sampler-gt9 c = sym (and_yes _ _ (le-leb _ _ c.if-sampler-gt4.false) ∙ and_yes _ _ (le-leb _ _ c.if-sampler-gt15.false) ∙ and_yes _ _ (sym c.setting_in_range.ensures ∙ not-false _ c.if-not-setting_in_range.false) ∙ and_no _ _ (lt-leb _ _ c.if-sampler-gt9.true))
+returns-then-sampler-gt9 c = sym (and_yes _ _ (le-leb _ _ c.if-sampler-gt4.false) ∙ and_yes _ _ (le-leb _ _ c.if-sampler-gt15.false) ∙ and_yes _ _ (sym c.setting_in_range.ensures ∙ c.if-not-setting_in_range.false) ∙ and_no _ _ (lt-leb _ _ c.if-sampler-gt9.true))
 
 pub returns : goal.returns
-returns c = sym (and_yes _ _ (le-leb _ _ c.if-sampler-gt4.false) ∙ and_yes _ _ (le-leb _ _ c.if-sampler-gt15.false) ∙ and_yes _ _ (sym c.setting_in_range.ensures ∙ not-false _ c.if-not-setting_in_range.false) ∙ and_yes _ _ (le-leb _ _ c.if-sampler-gt9.false))
+returns c = sym (and_yes _ _ (le-leb _ _ c.if-sampler-gt4.false) ∙ and_yes _ _ (le-leb _ _ c.if-sampler-gt15.false) ∙ and_yes _ _ (sym c.setting_in_range.ensures ∙ c.if-not-setting_in_range.false) ∙ and_yes _ _ (le-leb _ _ c.if-sampler-gt9.false))

@@ -6,26 +6,14 @@ use borrow.Author.Tests.{not-true, not-false}
 use Rattle.chip_soundness.proofs.Tests.{and_no, and_yes}
 use Rattle.chip_soundness.proofs.soundness.side_in_range.Goals as goal
 
-pub mr1_not_modelled-requires : goal.mr1_not_modelled-requires
-mr1_not_modelled-requires c = tt
-
 pub returns-then-mr1_not_modelled : goal.returns-then-mr1_not_modelled
 returns-then-mr1_not_modelled c = sym (and_no _ _ (ap not (sym c.mr1_not_modelled.ensures ∙ c.if-mr1_not_modelled.true)))
-
-pub mr2_not_modelled-requires : goal.mr2_not_modelled-requires
-mr2_not_modelled-requires c = tt
 
 pub returns-then-mr2_not_modelled : goal.returns-then-mr2_not_modelled
 returns-then-mr2_not_modelled c = sym (and_yes _ _ (ap not (sym c.mr1_not_modelled.ensures ∙ c.if-mr1_not_modelled.false)) ∙ and_no _ _ (ap not (sym c.mr2_not_modelled.ensures ∙ c.if-mr2_not_modelled.true)))
 
-pub transmitter_in_range-requires : goal.transmitter_in_range-requires
-transmitter_in_range-requires c = tt
-
 pub returns-then-not-transmitter_in_range : goal.returns-then-not-transmitter_in_range
-returns-then-not-transmitter_in_range c = sym (and_yes _ _ (ap not (sym c.mr1_not_modelled.ensures ∙ c.if-mr1_not_modelled.false)) ∙ and_yes _ _ (ap not (sym c.mr2_not_modelled.ensures ∙ c.if-mr2_not_modelled.false)) ∙ and_no _ _ (sym c.transmitter_in_range.ensures ∙ not-true _ c.if-not-transmitter_in_range.true))
-
-pub phases_in_range-requires : goal.phases_in_range-requires
-phases_in_range-requires c = tt
+returns-then-not-transmitter_in_range c = sym (and_yes _ _ (ap not (sym c.mr1_not_modelled.ensures ∙ c.if-mr1_not_modelled.false)) ∙ and_yes _ _ (ap not (sym c.mr2_not_modelled.ensures ∙ c.if-mr2_not_modelled.false)) ∙ and_no _ _ (sym c.transmitter_in_range.ensures ∙ c.if-not-transmitter_in_range.true))
 
 pub returns : goal.returns
-returns c = c.phases_in_range.ensures ∙ sym (and_yes _ _ (ap not (sym c.mr1_not_modelled.ensures ∙ c.if-mr1_not_modelled.false)) ∙ and_yes _ _ (ap not (sym c.mr2_not_modelled.ensures ∙ c.if-mr2_not_modelled.false)) ∙ and_yes _ _ (sym c.transmitter_in_range.ensures ∙ not-false _ c.if-not-transmitter_in_range.false))
+returns c = c.phases_in_range.ensures ∙ sym (and_yes _ _ (ap not (sym c.mr1_not_modelled.ensures ∙ c.if-mr1_not_modelled.false)) ∙ and_yes _ _ (ap not (sym c.mr2_not_modelled.ensures ∙ c.if-mr2_not_modelled.false)) ∙ and_yes _ _ (sym c.transmitter_in_range.ensures ∙ c.if-not-transmitter_in_range.false))

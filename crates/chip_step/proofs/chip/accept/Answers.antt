@@ -2,8 +2,5 @@
 use Prim.{tt}
 use Rattle.chip_step.proofs.chip.accept.Goals as goal
 
-pub device_lines-requires : goal.device_lines-requires
-device_lines-requires c = tt
-
 pub returns : goal.returns
 returns c = simp c.device_lines.ensures

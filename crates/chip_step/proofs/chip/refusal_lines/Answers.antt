@@ -4,15 +4,9 @@ use Rattle.format.proofs.Laws.{steps}
 use Rattle.chip_step.specs.Chip.{refusal_lines}
 use Rattle.chip_step.proofs.chip.refusal_lines.Goals as goal
 
-pub no_lines-requires : goal.no_lines-requires
-no_lines-requires c = tt
-
 pub returns-then-number-eq1 : goal.returns-then-number-eq1
 unfolding refusal_lines
 returns-then-number-eq1 c = simp c.no_lines.ensures (search steps)
-
-pub device_lines-requires : goal.device_lines-requires
-device_lines-requires c = tt
 
 pub returns : goal.returns
 unfolding refusal_lines

@@ -6,35 +6,17 @@ use Rattle.chip_device.specs.Device.{is_sound_of}
 use Rattle.chip_step.specs.declared.chip.Taken.{Taken}
 use Rattle.chip_step.proofs.chip.step.Goals as goal
 
-pub first_refusal-first-requires : goal.first_refusal-first-requires
-first_refusal-first-requires c = tt
-
-pub take_event-taken-requires : goal.take_event-taken-requires
-take_event-taken-requires c = tt
-
-pub is_sound-requires : goal.is_sound-requires
-is_sound-requires c = tt
-
-pub accept-requires : goal.accept-requires
-accept-requires c = tt
-
 pub returns-then-is_sound : goal.returns-then-is_sound
 returns-then-is_sound c =
     simp (c.accept.ensures, c.take_event-taken.ensures)
     (sym (accepts _ _ (sym c.first_refusal-first.ensures ∙ c.if-first-eq0.true)
     (ap (λ (x : Taken). is_sound_of x.state) (sym c.take_event-taken.ensures) ∙ sym c.is_sound.ensures ∙ c.if-is_sound.true)))
 
-pub refuse-requires : goal.refuse-requires
-refuse-requires c = tt
-
 pub returns-then-first-eq0 : goal.returns-then-first-eq0
 returns-then-first-eq0 c =
     simp c.refuse.ensures
     (sym (refuses_seven _ _ (sym c.first_refusal-first.ensures ∙ c.if-first-eq0.true)
     (ap (λ (x : Taken). is_sound_of x.state) (sym c.take_event-taken.ensures) ∙ sym c.is_sound.ensures ∙ c.if-is_sound.false)))
-
-pub refuse-requires-2 : goal.refuse-requires-2
-refuse-requires-2 c = tt
 
 pub returns : goal.returns
 returns c =

@@ -8,9 +8,6 @@ pub returns-then-left-eq0 : goal.returns-then-left-eq0
 unfolding is_over
 returns-then-left-eq0 c = search steps
 
-pub device_lines-lines-requires : goal.device_lines-lines-requires
-device_lines-lines-requires c = tt
-
 pub returns-then-watch : goal.returns-then-watch
 unfolding is_over
 returns-then-watch c = simp c.device_lines-lines.ensures (search steps)

@@ -1,13 +1,7 @@
--- `spend` meets its contract: what is spent already and what the ticks that are left will spend is what all of them spend. Assumes nothing.
-use Prim.{tt}
-use Prim.Native.Nat.{suc, ◌-◌, ◌≤◌, ◌<◌}
-use mathlib.Core.Path.{◌≡◌, sym, ◌∙◌, ap}
-use mathlib.Core.Bool.{false}
-use native.Mathlib.Omega.{arith}
-use Rattle.format.specs.declared.counts.Ticks.{Ticks}
-use Rattle.chip_fast.proofs.Laws.Ticked.{unless, until}
+-- What is spent already and what the ticks that are left will spend is what all of them spend. Assumes nothing.
+use mathlib.Core.Path.{◌≡◌}
 use Rattle.chip_ticks.specs.Ticks.{is_over}
-use Rattle.chip_ticks.proofs.Laws.{Sofar, starts, hop_within, hops, ends, not_over}
+use Rattle.chip_ticks.proofs.Laws.{Sofar}
 use Rattle.chip_ticks.proofs.ticks.spend.Given as goal
 
 abbrev pub invariant-loop-over : goal.invariant-loop-over

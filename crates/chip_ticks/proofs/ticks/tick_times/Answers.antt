@@ -8,23 +8,14 @@ use Rattle.chip_ticks.proofs.ticks.tick_times.Goals as goal
 pub returns-then-times-eq0 : goal.returns-then-times-eq0
 returns-then-times-eq0 c = sym (ticked_none _ _ c.if-times-eq0.true)
 
-pub is_sound-requires : goal.is_sound-requires
-is_sound-requires c = tt
-
 pub spend-spent-requires : goal.spend-spent-requires
 spend-spent-requires c = sym c.is_sound.ensures ∙ c.if-is_sound.true
-
-pub at_rest-requires : goal.at_rest-requires
-at_rest-requires c = tt
 
 pub returns-then-is_sound : goal.returns-then-is_sound
 returns-then-is_sound c =
     let some = c.if-times-eq0.false in
     let sound = sym c.is_sound.ensures ∙ c.if-is_sound.true in
     simp (c.at_rest.ensures, c.spend-spent.ensures) (ticked_sound _ _ (omega (arith, some)) sound)
-
-pub swift_step-requires : goal.swift_step-requires
-swift_step-requires c = tt
 
 pub returns : goal.returns
 returns c =

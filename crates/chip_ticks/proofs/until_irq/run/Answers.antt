@@ -4,29 +4,19 @@ use Prim.Native.Nat.{◌≤◌, ◌<◌}
 use mathlib.Core.Path.{sym, ◌∙◌}
 use mathlib.Core.Bool.{true}
 use native.Mathlib.Omega.{arith}
-use Rattle.chip_fast.proofs.Laws.Ticked.{unless, until}
 use Rattle.chip_ticks.proofs.Laws.{spent_most, run_unsound, run_over, run_within}
 use Rattle.chip_ticks.proofs.until_irq.run.Goals as goal
 
-pub is_sound-requires : goal.is_sound-requires
-is_sound-requires c = tt
-
-pub no_lines-requires : goal.no_lines-requires
-no_lines-requires c = tt
-
 pub returns-then-not-is_sound : goal.returns-then-not-is_sound
-returns-then-not-is_sound c = simp c.no_lines.ensures (run_unsound _ _ (sym c.is_sound.ensures ∙ unless _ c.if-not-is_sound.true))
-
-pub device_lines-requires : goal.device_lines-requires
-device_lines-requires c = tt
+returns-then-not-is_sound c = simp c.no_lines.ensures (run_unsound _ _ (sym c.is_sound.ensures ∙ c.if-not-is_sound.true))
 
 pub returns-then-budget-gt-MOST_TICKS : goal.returns-then-budget-gt-MOST_TICKS
 returns-then-budget-gt-MOST_TICKS c =
-    let sound = sym c.is_sound.ensures ∙ until _ c.if-not-is_sound.false in
+    let sound = sym c.is_sound.ensures ∙ c.if-not-is_sound.false in
     simp c.device_lines.ensures (run_over _ _ sound c.if-budget-gt-MOST_TICKS.true)
 
 pub spend-spent-requires : goal.spend-spent-requires
-spend-spent-requires c = sym c.is_sound.ensures ∙ until _ c.if-not-is_sound.false
+spend-spent-requires c = sym c.is_sound.ensures ∙ c.if-not-is_sound.false
 
 pub overflow_cast-result : goal.overflow_cast-result
 overflow_cast-result c =
@@ -34,11 +24,8 @@ overflow_cast-result c =
     let within = c.if-budget-gt-MOST_TICKS.false in
     record { fits = omega (arith, most, within) }
 
-pub device_lines-requires-2 : goal.device_lines-requires-2
-device_lines-requires-2 c = tt
-
 pub returns : goal.returns
 returns c =
-    let sound = sym c.is_sound.ensures ∙ until _ c.if-not-is_sound.false in
+    let sound = sym c.is_sound.ensures ∙ c.if-not-is_sound.false in
     let within = c.if-budget-gt-MOST_TICKS.false in
     simp (c.device_lines-2.ensures, c.spend-spent.ensures) (run_within _ _ sound (omega (arith, within)))

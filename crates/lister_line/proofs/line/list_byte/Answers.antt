@@ -8,20 +8,8 @@ use lib.ListN.{length, length-set}
 use Rattle.lister_line.proofs.Laws.Turns.{Sofar, start, turn, ends}
 use Rattle.lister_line.proofs.line.list_byte.Goals as goal
 
-pub step-last-requires : goal.step-last-requires
-step-last-requires c = tt
-
 pub loop-at-init : goal.loop-at-init
 loop-at-init c = (omega arith, refl, start _)
-
-pub tick_times-middle-requires : goal.tick_times-middle-requires
-tick_times-middle-requires c = tt
-
-pub level_text-requires : goal.level_text-requires
-level_text-requires c = tt
-
-pub tick_times-last-requires : goal.tick_times-last-requires
-tick_times-last-requires c = tt
 
 pub loop-at-preserved : goal.loop-at-preserved
 loop-at-preserved c =

@@ -2,8 +2,5 @@
 use Prim.{tt}
 use Rattle.lister_line.proofs.line.write.Goals as goal
 
-pub step-answer-requires : goal.step-answer-requires
-step-answer-requires c = tt
-
 pub returns : goal.returns
 returns c = simp c.step-answer.ensures
