@@ -1,24 +1,16 @@
--- `show` is safe: the parts that it lends are within their slices, the text's by `dump`'s own answer. Assumes nothing.
-use Prim.Native.Nat.{◌≤◌}
+-- `show` is safe: the part of the text that it lends is within its slice, by `dump`'s own answer. Assumes nothing.
+use mathlib.Core.Path.{sym}
 use native.Mathlib.Omega.{arith}
-use lib.ListN.{length, length-take}
+use lib.Seq.{length-take-le}
 use Rattle.vcd_dump.proofs.Laws.Answers.{answer_within}
-use borrow.Author.Rules.{rules}
 use Rattle.dump.proofs.show.Goals as goal
 
-within : (c : tie.After-space) → c.dump-answer.result.length ≤ length c.dump-answer.new.1.1.0
-within c =
-    let w = answer_within _ _ _ _ c.dump-answer.ensures.0 in
-    omega (arith, w, c.space.given)
-
-pub slice_bounds-dump-end-2 : goal.slice_bounds-dump-end-2
-slice_bounds-dump-end-2 c = simp length-take (omega arith)
-
 pub slice_bounds-write_all-end : goal.slice_bounds-write_all-end
-slice_bounds-write_all-end c =
-    within c
+slice_bounds-write_all-end g c =
+    let w = answer_within _ _ _ _ c.dump-answer.ensures.answer in
+    omega (arith, w, c.dump-answer.auto.space)
 
 pub slice_bounds-write_all-end-then-answer-eq0 : goal.slice_bounds-write_all-end-then-answer-eq0
-slice_bounds-write_all-end-then-answer-eq0 c =
-    let w = within c in
-    simp length-take (omega arith)
+slice_bounds-write_all-end-then-answer-eq0 g c =
+    let w = answer_within _ _ _ _ c.dump-answer.ensures.answer in
+    sym (length-take-le _ _ (omega (arith, w, c.dump-answer.auto.space)))
