@@ -1,7 +1,9 @@
 // `capture MR1 ACR7 CODE NAMEA NAMEB`: the numbers, in decimal and up to 255, ACR7 0 or 1.
 ghost use Rattle.std.specs.Prelude.{◌≡◌};
+ghost use Rattle.replay_text.specs.Lines.{Within};
 ghost use Rattle.capture.specs.Arguments.{spelled, asked_of};
 
+use std::env::{Env, FillError};
 use text::number_after;
 use vcd_capture::Asked;
 
@@ -49,18 +51,39 @@ fn ask(mr1: u64, acr7: u64, code: u64) -> Numbers
     })
 }
 
-fn number_argument(place: usize, space: &mut [u8]) -> u64 {
-    let length = os::arg(place, space);
+// The length of the argument that is put at the start of `space`: 0 where there is none, or `space` is too short for it.
+pub fn argument(env: &impl Env, place: usize, space: &mut [u8]) -> usize
+    ensures { Within result space.new }
+{
+    match env.arg(place, space) {
+        Ok(length) => length,
+        Err(_) => 0,
+    }
+}
+
+fn number_argument(env: &impl Env, place: usize, space: &mut [u8]) -> u64 {
+    let length = argument(env, place, space);
     spell(&space[..length])
 }
 
-// The program's own name is an argument too.
-pub fn read_numbers(space: &mut [u8]) -> Numbers {
-    if os::arg_count() != 6 {
+// An argument that is too long for `space` is one, too.
+fn is_argument(env: &impl Env, place: usize, space: &mut [u8]) -> bool {
+    match env.arg(place, space) {
+        Err(FillError::NotPresent) => false,
+        _ => true,
+    }
+}
+
+// The program's own name is an argument too, so five are those up to place 5.
+pub fn read_numbers(env: &impl Env, space: &mut [u8]) -> Numbers {
+    if !is_argument(env, 5, space) {
         return Numbers::Wrong;
     }
-    let mr1 = number_argument(1, space);
-    let acr7 = number_argument(2, space);
-    let code = number_argument(3, space);
+    if is_argument(env, 6, space) {
+        return Numbers::Wrong;
+    }
+    let mr1 = number_argument(env, 1, space);
+    let acr7 = number_argument(env, 2, space);
+    let code = number_argument(env, 3, space);
     ask(mr1, acr7, code)
 }

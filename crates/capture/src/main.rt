@@ -6,11 +6,13 @@ mod arguments;
 mod lines;
 mod said;
 
+ghost use Rattle.replay_text.specs.Lines.{Within};
 ghost use Rattle.capture.specs.Said.{Lent};
 
-use arguments::{Numbers, read_numbers};
-use libc::{STDIN_FILENO, STDOUT_FILENO};
+use arguments::{Numbers, argument, read_numbers};
 use said::put_said;
+use std::env::Env;
+use std::io::Read;
 use vcd_capture::Asked;
 
 // The most of a text that is read from standard input.
@@ -29,7 +31,24 @@ const SPACE: usize = 468100;
 // Longer than any argument that Linux hands to a program.
 const ARGUMENT: usize = 131072;
 
+// How many bytes are read, until the text is full, the input ends or a read fails: they stand at its start.
+fn read_full(input: &mut impl Read, text: &mut [u8]) -> usize
+    ensures { Within result text.new }
+{
+    let mut length = 0usize;
+    while length < text.len() {
+        let more = input.read(&mut text[length..]).unwrap_or(0);
+        if more == 0 {
+            break;
+        }
+        length += more;
+    }
+    length
+}
+
 fn show(
+    rt: &impl Print,
+    input: &mut impl Read,
     asked: Asked,
     text: &mut [u8],
     name_a: &[u8],
@@ -40,17 +59,19 @@ fn show(
 )
     requires { Lent log_a.old log_b.old space.old }
 {
-    let length = io::read_full(STDIN_FILENO, text);
+    let length = read_full(input, text);
     if length > MOST_TEXT {
-        io::write_all(STDOUT_FILENO, b"too long\n");
+        let _ = rt.write_all(b"too long\n");
         return;
     }
     let end = put_said(asked, &text[..length], name_a, name_b, log_a, log_b, space);
-    io::write_all(STDOUT_FILENO, &space[..end]);
+    let _ = rt.write_all(&space[..end]);
 }
 
 // Arguments are looked at first: where they cannot be read, the text is not.
 fn run(
+    rt: &(impl Print + Env),
+    input: &mut impl Read,
     text: &mut [u8],
     name_a: &mut [u8],
     name_b: &mut [u8],
@@ -60,15 +81,17 @@ fn run(
 )
     requires { Lent log_a.old log_b.old space.old }
 {
-    let numbers = read_numbers(name_a);
+    let numbers = read_numbers(rt, name_a);
     match numbers {
         Numbers::Wrong => {
-            io::write_all(STDOUT_FILENO, b"usage\n");
+            let _ = rt.write_all(b"usage\n");
         }
         Numbers::Read(asked) => {
-            let length_a = os::arg(4, name_a);
-            let length_b = os::arg(5, name_b);
+            let length_a = argument(rt, 4, name_a);
+            let length_b = argument(rt, 5, name_b);
             show(
+                rt,
+                input,
                 asked,
                 text,
                 &name_a[..length_a],
@@ -82,6 +105,8 @@ fn run(
 }
 
 fn lend(
+    rt: &(impl Print + Env),
+    input: &mut impl Read,
     text: &mut [u8; TEXT],
     name_a: &mut [u8; ARGUMENT],
     name_b: &mut [u8; ARGUMENT],
@@ -89,10 +114,11 @@ fn lend(
     log_b: &mut [u8; LOG],
     space: &mut [u8; SPACE],
 ) {
-    run(text, name_a, name_b, log_a, log_b, space);
+    run(rt, input, text, name_a, name_b, log_a, log_b, space);
 }
 
-fn main() {
+fn main(rt: HostRuntime) {
+    let mut input = rt.stdin();
     let mut text = [0u8; TEXT];
     let mut name_a = [0u8; ARGUMENT];
     let mut name_b = [0u8; ARGUMENT];
@@ -100,6 +126,8 @@ fn main() {
     let mut log_b = [0u8; LOG];
     let mut space = [0u8; SPACE];
     lend(
+        &rt,
+        &mut input,
         &mut text,
         &mut name_a,
         &mut name_b,

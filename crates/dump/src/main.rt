@@ -6,10 +6,10 @@ ghost use Rattle.std.specs.Prelude.{◌≤◌};
 
 use chip_device::fresh;
 use events::Event;
-use libc::{STDERR_FILENO, STDIN_FILENO, STDOUT_FILENO};
 use records::EventRecord;
 use replay_script::{Line, Place, first_place, next_line, next_place, tell};
 use replay_text::write_error;
+use std::io::Read;
 use text::put;
 use vcd_dump::dump;
 
@@ -29,10 +29,10 @@ struct Turn {
 // One more than a list may have: how many there are past it makes no difference.
 const TOO_MANY: usize = 1000001;
 
-fn print_error(line: u64) {
+fn print_error(errors: &impl Print, line: u64) {
     let mut space = [0u8; 32];
     let length = write_error(line, &mut space);
-    io::write_all(STDERR_FILENO, &space[..length]);
+    let _ = errors.write_all(&space[..length]);
 }
 
 fn record_of(event: Event) -> EventRecord {
@@ -92,11 +92,11 @@ fn add_ticks(times: u64, count: usize, events: &mut [u8]) -> usize {
     next
 }
 
-fn add_line(said: Line, line: u64, count: usize, events: &mut [u8]) -> usize {
+fn add_line(errors: &impl Print, said: Line, line: u64, count: usize, events: &mut [u8]) -> usize {
     match said {
         Line::Skipped => count,
         Line::Wrong => {
-            print_error(line);
+            print_error(errors, line);
             count
         }
         Line::Ticks(times) => add_ticks(times.0, count, events),
@@ -104,19 +104,19 @@ fn add_line(said: Line, line: u64, count: usize, events: &mut [u8]) -> usize {
     }
 }
 
-fn end_line(run: Run, events: &mut [u8]) -> Run {
+fn end_line(errors: &impl Print, run: Run, events: &mut [u8]) -> Run {
     let place = run.place;
     let said = tell(place.reading);
-    let count = add_line(said, place.line, run.count, events);
+    let count = add_line(errors, said, place.line, run.count, events);
     Run {
         place: next_line(place),
         count: count,
     }
 }
 
-fn take_byte(run: Run, byte: u8, events: &mut [u8]) -> Run {
+fn take_byte(errors: &impl Print, run: Run, byte: u8, events: &mut [u8]) -> Run {
     if byte == 10 {
-        return end_line(run, events);
+        return end_line(errors, run, events);
     }
     Run {
         place: next_place(run.place, byte),
@@ -124,30 +124,30 @@ fn take_byte(run: Run, byte: u8, events: &mut [u8]) -> Run {
     }
 }
 
-fn take_bytes(run: Run, bytes: &[u8], events: &mut [u8]) -> Run {
+fn take_bytes(errors: &impl Print, run: Run, bytes: &[u8], events: &mut [u8]) -> Run {
     let mut now = run;
     let mut i = 0;
     while i < bytes.len() {
-        now = take_byte(now, bytes[i], events);
+        now = take_byte(errors, now, bytes[i], events);
         i += 1;
     }
     now
 }
 
-fn take_chunk(run: Run, events: &mut [u8]) -> Turn {
+// A read that fails ends the input.
+fn take_chunk(errors: &impl Print, input: &mut impl Read, run: Run, events: &mut [u8]) -> Turn {
     let mut chunk = [0u8; 4096];
-    let got = libc::read(STDIN_FILENO, &mut chunk);
-    let length = io::count(got, &chunk);
-    let next = take_bytes(run, &chunk[..length], events);
+    let length = input.read(&mut chunk).unwrap_or(0);
+    let next = take_bytes(errors, run, &chunk[..length], events);
     Turn {
         run: next,
-        more: got > 0,
+        more: length > 0,
     }
 }
 
 // A proved loop must end: no input has more chunks than this counts. A last line with no line end counts, unless it
 // is empty.
-fn take_all(events: &mut [u8]) -> usize {
+fn take_all(errors: &impl Print, input: &mut impl Read, events: &mut [u8]) -> usize {
     let mut turn = Turn {
         run: Run {
             place: first_place(),
@@ -158,12 +158,12 @@ fn take_all(events: &mut [u8]) -> usize {
     let mut turns = u64::MAX;
     while turns > 0 && turn.more {
         let now = turn.run;
-        turn = take_chunk(now, events);
+        turn = take_chunk(errors, input, now, events);
         turns -= 1;
     }
     let last = turn.run;
     if last.place.begun {
-        let ended = end_line(last, events);
+        let ended = end_line(errors, last, events);
         return ended.count;
     }
     last.count
@@ -183,31 +183,45 @@ fn end_of(count: usize, most: usize) -> usize
 }
 
 // A refusal is told on standard error, `refused 9` or `refused 8`; nothing is written to standard output then.
-fn refuse(number: u8) {
-    io::write_all(STDERR_FILENO, b"refused ");
-    io::print_decimal(STDERR_FILENO, number as u64);
-    io::write_all(STDERR_FILENO, b"\n");
+fn refuse(errors: &impl Print, number: u8) {
+    let _ = errors.write_all(b"refused ");
+    let _ = errors.print(number);
+    let _ = errors.write_all(b"\n");
 }
 
-fn show(events: &mut [u8], space: &mut [u8]) {
-    let count = take_all(events);
+fn show(
+    output: &impl Print,
+    errors: &impl Print,
+    input: &mut impl Read,
+    events: &mut [u8],
+    space: &mut [u8],
+) {
+    let count = take_all(errors, input, events);
     let end = end_of(count, events.len());
     let answer = dump(fresh(), &events[..end], space);
     let length = answer.length;
     if answer.number == 0 {
-        io::write_all(STDOUT_FILENO, &space[..length]);
+        let _ = output.write_all(&space[..length]);
         return;
     }
-    refuse(answer.number);
+    refuse(errors, answer.number);
 }
 
-fn lend(events: &mut [u8; 3000003], space: &mut [u8; 2097152]) {
-    show(events, space);
+fn lend(
+    output: &impl Print,
+    errors: &impl Print,
+    input: &mut impl Read,
+    events: &mut [u8; 3000003],
+    space: &mut [u8; 2097152],
+) {
+    show(output, errors, input, events, space);
 }
 
 // The limits: 1,000,000 events, and one more so that it can be refused, and 2,097,152 bytes of text.
-fn main() {
+fn main(rt: HostRuntime) {
+    let errors = rt.stderr();
+    let mut input = rt.stdin();
     let mut events = [0u8; 3000003];
     let mut space = [0u8; 2097152];
-    lend(&mut events, &mut space);
+    lend(&rt, &errors, &mut input, &mut events, &mut space);
 }

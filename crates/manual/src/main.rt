@@ -19,14 +19,14 @@ mod text;
 mod trace;
 mod word;
 
-fn main() {
-    rates::examples();
-    register_table::examples();
-    command_table::examples();
-    initialization::examples();
-    inch_outch::examples();
-    loopback::examples();
-    break_change::examples();
-    counter_ready::examples();
-    stops::examples();
+fn main(rt: HostRuntime) {
+    rates::examples(&rt);
+    register_table::examples(&rt);
+    command_table::examples(&rt);
+    initialization::examples(&rt);
+    inch_outch::examples(&rt);
+    loopback::examples(&rt);
+    break_change::examples(&rt);
+    counter_ready::examples(&rt);
+    stops::examples(&rt);
 }

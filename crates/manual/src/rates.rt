@@ -92,15 +92,15 @@ fn bit_ticks(rate: Rate) -> u64 {
     0
 }
 
-fn print_sets(rate: Rate) {
-    print(b", code ");
-    print_byte(rate.code);
+fn print_sets(rt: &impl Print, rate: Rate) {
+    print(rt, b", code ");
+    print_byte(rt, rate.code);
     if rate.first_set & rate.second_set {
-        print(b" of both sets");
+        print(rt, b" of both sets");
     } else if rate.first_set {
-        print(b" of set 1");
+        print(rt, b" of set 1");
     } else {
-        print(b" of set 2");
+        print(rt, b" of set 2");
     }
 }
 
@@ -133,43 +133,43 @@ fn error_of(tenths: u64, ticks: u64) -> u64 {
     quotient(off, tenths % 1000000 * 10000)
 }
 
-fn print_error(below: bool, error: u64) {
-    print(b" error ");
+fn print_error(rt: &impl Print, below: bool, error: u64) {
+    print(rt, b" error ");
     if below {
-        print(b"-");
+        print(rt, b"-");
     }
-    print_thousandths(error);
-    print(b" percent, ");
+    print_thousandths(rt, error);
+    print(rt, b" percent, ");
 }
 
 // The 16X clock is the manual's to the hertz, and the error to a thousandth of a percent.
-fn check(rate: Rate, verdict: &[u8]) {
-    print(b"rate ");
-    print_tenths(rate.tenths);
-    print_sets(rate);
-    print(b" (004, table 4-5; the codes 4.2): ");
+fn check(rt: &impl Print, rate: Rate, verdict: &[u8]) {
+    print(rt, b"rate ");
+    print_tenths(rt, rate.tenths);
+    print_sets(rt, rate);
+    print(rt, b" (004, table 4-5; the codes 4.2): ");
     let ticks = bit_ticks(rate);
     let hertz = quotient(58982400, ticks);
     let error = error_of(rate.tenths, ticks);
     let below = measured_rate(ticks) < nominal_rate(rate.tenths);
-    print_number(ticks);
-    print(b" ticks a bit, ");
-    print_number(ticks / 16);
-    print(b" a pulse, ");
-    print_thousandths(quotient(3686400000, ticks));
-    print(b" bits a second, 16X clock ");
-    print_number(hertz);
-    print(b" Hz,");
-    print_error(below, error);
+    print_number(rt, ticks);
+    print(rt, b" ticks a bit, ");
+    print_number(rt, ticks / 16);
+    print(rt, b" a pulse, ");
+    print_thousandths(rt, quotient(3686400000, ticks));
+    print(rt, b" bits a second, 16X clock ");
+    print_number(rt, hertz);
+    print(rt, b" Hz,");
+    print_error(rt, below, error);
     let clock_agrees = hertz == rate.hertz;
     let error_agrees = (error == rate.thousandths) & (below == rate.below);
     if !clock_agrees | !error_agrees {
-        print(b"DIFFERS from ");
-        print_number(rate.hertz);
-        print(b" Hz and");
-        print_error(rate.below, rate.thousandths);
+        print(rt, b"DIFFERS from ");
+        print_number(rt, rate.hertz);
+        print(rt, b" Hz and");
+        print_error(rt, rate.below, rate.thousandths);
     }
-    print_verdict(clock_agrees & error_agrees, verdict);
+    print_verdict(rt, clock_agrees & error_agrees, verdict);
 }
 
 // A rate that the crystal divides exactly.
@@ -185,40 +185,44 @@ fn exact_rate(tenths: u64, code: u8, first_set: bool, second_set: bool, hertz: u
     }
 }
 
-fn exact(tenths: u64, code: u8, first_set: bool, second_set: bool, hertz: u64) {
+fn exact(rt: &impl Print, tenths: u64, code: u8, first_set: bool, second_set: bool, hertz: u64) {
     let rate = exact_rate(tenths, code, first_set, second_set, hertz);
-    check(rate, b"as the manual says");
+    check(rt, rate, b"as the manual says");
 }
 
 // A rate that it divides nearly, with the manual's error.
-fn near(rate: Rate, below: bool, thousandths: u64, verdict: &[u8]) {
+fn near(rt: &impl Print, rate: Rate, below: bool, thousandths: u64, verdict: &[u8]) {
     let mut off = rate;
     off.below = below;
     off.thousandths = thousandths;
-    check(off, verdict);
+    check(rt, off, verdict);
 }
 
 // The four that the crystal divides nearly. The manual's 0.175 is what its clock rounded to 32,056 Hz gives.
-fn near_rates() {
+fn near_rates(rt: &impl Print) {
     near(
+        rt,
         exact_rate(1100, 1, true, true, 1759),
         true,
         69,
         b"as the manual says, its \"100\" read as 110, which 4.2 has",
     );
     near(
+        rt,
         exact_rate(1345, 2, true, true, 2153),
         false,
         59,
         b"as the manual says",
     );
     near(
+        rt,
         exact_rate(10500, 7, true, false, 16756),
         true,
         260,
         b"as the manual says",
     );
     near(
+        rt,
         exact_rate(20000, 7, false, true, 32056),
         false,
         174,
@@ -227,30 +231,32 @@ fn near_rates() {
 }
 
 // Two 16X clocks that the table prints otherwise than 16 times their rates, which their error of 0 asks for.
-fn misprinted_rates() {
+fn misprinted_rates(rt: &impl Print) {
     check(
+        rt,
         exact_rate(3000, 4, true, true, 4800),
         b"as the manual says, its \"48\" read as 4.8 kHz",
     );
     check(
+        rt,
         exact_rate(72000, 10, true, false, 115200),
         b"as the manual says, its \"1115.2\" read as 115.2 kHz",
     );
 }
 
-pub fn examples() {
-    exact(500, 0, true, false, 800);
-    exact(750, 0, false, true, 1200);
-    exact(1500, 3, false, true, 2400);
-    exact(2000, 3, true, false, 3200);
-    exact(6000, 5, true, true, 9600);
-    exact(12000, 6, true, true, 19200);
-    exact(18000, 10, false, true, 28800);
-    exact(24000, 8, true, true, 38400);
-    exact(48000, 9, true, true, 76800);
-    exact(96000, 11, true, true, 153600);
-    exact(192000, 12, false, true, 307200);
-    exact(384000, 12, true, false, 614400);
-    near_rates();
-    misprinted_rates();
+pub fn examples(rt: &impl Print) {
+    exact(rt, 500, 0, true, false, 800);
+    exact(rt, 750, 0, false, true, 1200);
+    exact(rt, 1500, 3, false, true, 2400);
+    exact(rt, 2000, 3, true, false, 3200);
+    exact(rt, 6000, 5, true, true, 9600);
+    exact(rt, 12000, 6, true, true, 19200);
+    exact(rt, 18000, 10, false, true, 28800);
+    exact(rt, 24000, 8, true, true, 38400);
+    exact(rt, 48000, 9, true, true, 76800);
+    exact(rt, 96000, 11, true, true, 153600);
+    exact(rt, 192000, 12, false, true, 307200);
+    exact(rt, 384000, 12, true, false, 614400);
+    near_rates(rt);
+    misprinted_rates(rt);
 }

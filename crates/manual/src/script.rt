@@ -62,7 +62,7 @@ fn drive(bench: Bench, word: Word) -> Stopped {
 }
 
 // Whether every word agrees. A script that ends within a word does not.
-fn run(bench: Bench, script: &[u8]) -> bool {
+fn run(rt: &impl Print, bench: Bench, script: &[u8]) -> bool {
     let mut next = bench;
     let mut same = true;
     let mut word = no_word();
@@ -73,7 +73,7 @@ fn run(bench: Bench, script: &[u8]) -> bool {
         if c == b' ' {
             let driven = drive(next, word);
             next = driven.bench;
-            same = judge(look_at(next, driven.turns), word) & same;
+            same = judge(rt, look_at(next, driven.turns), word) & same;
             word = no_word();
         } else {
             word = with_byte(word, c);
@@ -83,10 +83,10 @@ fn run(bench: Bench, script: &[u8]) -> bool {
 }
 
 // One example: its name and source, what came, and the verdict.
-pub fn example(name: &[u8], script: &[u8], verdict: &[u8]) {
-    print(name);
-    print(b":");
-    let same = run(start(), script);
-    print(b" ");
-    print_verdict(same, verdict);
+pub fn example(rt: &impl Print, name: &[u8], script: &[u8], verdict: &[u8]) {
+    print(rt, name);
+    print(rt, b":");
+    let same = run(rt, start(), script);
+    print(rt, b" ");
+    print_verdict(rt, same, verdict);
 }

@@ -6,116 +6,116 @@ use crate::word::{
     wanted_number,
 };
 
-fn print_level(name: &[u8], level: bool) {
-    print(name);
+fn print_level(rt: &impl Print, name: &[u8], level: bool) {
+    print(rt, name);
     if level {
-        print(b"=1");
+        print(rt, b"=1");
     } else {
-        print(b"=0");
+        print(rt, b"=0");
     }
 }
 
-fn print_refusal(number: u8) {
+fn print_refusal(rt: &impl Print, number: u8) {
     if number != 0 {
-        print(b" refused with ");
-        print_byte(number);
+        print(rt, b" refused with ");
+        print_byte(rt, number);
     }
 }
 
-fn print_access(seen: Look, word: Word) {
+fn print_access(rt: &impl Print, seen: Look, word: Word) {
     if is_write(word.letter) {
-        print_write(first_byte(word));
-        print(b":=");
-        print_number(word.last);
+        print_write(rt, first_byte(word));
+        print(rt, b":=");
+        print_number(rt, word.last);
     } else if word.letter == b'z' {
-        print(b"chip reset");
+        print(rt, b"chip reset");
     } else if word.letter == b'k' {
-        print(b"acknowledge=");
-        print_byte(seen.byte);
+        print(rt, b"acknowledge=");
+        print_byte(rt, seen.byte);
     } else {
-        print_read(first_byte(word));
-        print(b"=");
-        print_byte(seen.byte);
+        print_read(rt, first_byte(word));
+        print(rt, b"=");
+        print_byte(rt, seen.byte);
     }
-    print_refusal(seen.number);
+    print_refusal(rt, seen.number);
 }
 
-fn print_time(word: Word) {
+fn print_time(rt: &impl Print, word: Word) {
     let letter = word.letter;
     match letter {
-        b'p' => print(b"pins:="),
-        b'a' => print(b"RxDA<-"),
-        b'b' => print(b"RxDB<-"),
-        b'j' => print(b"TxD wired to RxD"),
-        b'c' => print(b"IP3 falls, times "),
-        _ => print(b"ticks "),
+        b'p' => print(rt, b"pins:="),
+        b'a' => print(rt, b"RxDA<-"),
+        b'b' => print(rt, b"RxDB<-"),
+        b'j' => print(rt, b"TxD wired to RxD"),
+        b'c' => print(rt, b"IP3 falls, times "),
+        _ => print(rt, b"ticks "),
     }
     if letter != b'j' {
-        print_number(word.last);
+        print_number(rt, word.last);
     }
 }
 
-fn print_line(seen: Look, word: Word) {
+fn print_line(rt: &impl Print, seen: Look, word: Word) {
     let letter = word.letter;
     match letter {
-        b'i' => print_level(b"IRQ", seen.irq),
-        b'd' => print_level(b"TxDA", seen.txda),
-        b'e' => print_level(b"TxDB", seen.txdb),
-        b'g' => print_level(b"fresh", seen.fresh),
+        b'i' => print_level(rt, b"IRQ", seen.irq),
+        b'd' => print_level(rt, b"TxDA", seen.txda),
+        b'e' => print_level(rt, b"TxDB", seen.txdb),
+        b'g' => print_level(rt, b"fresh", seen.fresh),
         _ => {
-            print(b"OP=");
-            print_byte(seen.op);
+            print(rt, b"OP=");
+            print_byte(rt, seen.op);
         }
     }
 }
 
-fn print_poll(seen: Look, word: Word) {
-    print(b"until ");
-    print_read(first_byte(word));
-    print(b"&");
-    print_number(word.last);
-    print_level(b"", seen.byte & last_byte(word) != 0);
+fn print_poll(rt: &impl Print, seen: Look, word: Word) {
+    print(rt, b"until ");
+    print_read(rt, first_byte(word));
+    print(rt, b"&");
+    print_number(rt, word.last);
+    print_level(rt, b"", seen.byte & last_byte(word) != 0);
 }
 
-fn print_looped(seen: Look) {
-    print_number(seen.turns / LOOPED_TURNS);
-    print(b" bytes looped");
+fn print_looped(rt: &impl Print, seen: Look) {
+    print_number(rt, seen.turns / LOOPED_TURNS);
+    print(rt, b" bytes looped");
 }
 
-fn print_seen(seen: Look, word: Word) {
-    print(b" ");
+fn print_seen(rt: &impl Print, seen: Look, word: Word) {
+    print(rt, b" ");
     if is_access(word.letter) {
-        print_access(seen, word);
+        print_access(rt, seen, word);
     } else if is_line(word.letter) {
-        print_line(seen, word);
+        print_line(rt, seen, word);
     } else if word.letter == b'q' {
-        print_poll(seen, word);
+        print_poll(rt, seen, word);
     } else if word.letter == b'l' {
-        print_looped(seen);
+        print_looped(rt, seen);
     } else {
-        print_time(word);
+        print_time(rt, word);
     }
 }
 
-fn print_wanted(word: Word) {
-    print(b" DIFFERS from ");
+fn print_wanted(rt: &impl Print, word: Word) {
+    print(rt, b" DIFFERS from ");
     if is_access(word.letter) {
-        print_byte(wanted_byte(word));
-        print_refusal(wanted_number(word));
+        print_byte(rt, wanted_byte(word));
+        print_refusal(rt, wanted_number(word));
     } else if word.letter == b'q' {
-        print(b"1");
+        print(rt, b"1");
     } else {
-        print_number(word.last);
+        print_number(rt, word.last);
     }
 }
 
 // Prints the word with what came, and what should have come where that is not it.
-pub fn judge(seen: Look, word: Word) -> bool {
-    print_seen(seen, word);
+pub fn judge(rt: &impl Print, seen: Look, word: Word) -> bool {
+    print_seen(rt, seen, word);
     let same = agrees(seen, word);
     if !same {
-        print_wanted(word);
+        print_wanted(rt, word);
     }
-    print(b",");
+    print(rt, b",");
     same
 }

@@ -1,11 +1,9 @@
--- The proofs of a poll: the loop on lists, the two steps, what the loop is asked, what a reader is told, the machine
--- values and the call of a walk, and a file a function.
+-- The proofs of a poll: the loop on lists, the two steps, what the loop is asked, what a reader is told, and a file a
+-- function.
 pub mod Runs
 pub mod Alike
 pub mod Steps
 pub mod Asked
 pub mod Told
-pub mod Machine
-pub mod Walk
 mod ShutOut
 mod Examples

@@ -6,9 +6,9 @@ use chip_device::{Device, fresh};
 use chip_fast::at_rest;
 use chip_step::{Answer, step};
 use chip_ticks::tick_times;
-use libc::{STDIN_FILENO, STDOUT_FILENO};
 use replay_script::{Line, Place, first_place, next_line, next_place, tell};
 use replay_text::{write_error, write_seen};
+use std::io::Read;
 
 // The device so far, and where in the script we are.
 #[derive(Clone, Copy)]
@@ -23,7 +23,7 @@ struct Turn {
     more: bool,
 }
 
-fn print_answer(answer: Answer) -> Device {
+fn print_answer(rt: &impl Print, answer: Answer) -> Device {
     let lines = answer.lines;
     let mut space = [0u8; 32];
     let length = write_seen(
@@ -36,34 +36,34 @@ fn print_answer(answer: Answer) -> Device {
         answer.fresh,
         &mut space,
     );
-    io::write_all(STDOUT_FILENO, &space[..length]);
+    let _ = rt.write_all(&space[..length]);
     answer.state
 }
 
-fn print_error(line: u64) {
+fn print_error(rt: &impl Print, line: u64) {
     let mut space = [0u8; 32];
     let length = write_error(line, &mut space);
-    io::write_all(STDOUT_FILENO, &space[..length]);
+    let _ = rt.write_all(&space[..length]);
 }
 
 // Does what a line says, and prints the answer: of many ticks the last one's.
-fn act(device: Device, said: Line, line: u64) -> Device {
+fn act(rt: &impl Print, device: Device, said: Line, line: u64) -> Device {
     match said {
         Line::Skipped => device,
         Line::Wrong => {
-            print_error(line);
+            print_error(rt, line);
             device
         }
-        Line::Ticks(times) => print_answer(tick_times(at_rest(device), times)),
-        Line::One(event) => print_answer(step(device, event)),
+        Line::Ticks(times) => print_answer(rt, tick_times(at_rest(device), times)),
+        Line::One(event) => print_answer(rt, step(device, event)),
     }
 }
 
-fn end_line(run: Run) -> Run {
+fn end_line(rt: &impl Print, run: Run) -> Run {
     let place = run.place;
     let reading = place.reading;
     let said = tell(reading);
-    let device = act(run.device, said, place.line);
+    let device = act(rt, run.device, said, place.line);
     let next = next_line(place);
     Run {
         device: device,
@@ -71,9 +71,9 @@ fn end_line(run: Run) -> Run {
     }
 }
 
-fn take_byte(run: Run, byte: u8) -> Run {
+fn take_byte(rt: &impl Print, run: Run, byte: u8) -> Run {
     if byte == 10 {
-        return end_line(run);
+        return end_line(rt, run);
     }
     let device = run.device;
     let place = next_place(run.place, byte);
@@ -83,29 +83,29 @@ fn take_byte(run: Run, byte: u8) -> Run {
     }
 }
 
-fn take_bytes(run: Run, bytes: &[u8]) -> Run {
+fn take_bytes(rt: &impl Print, run: Run, bytes: &[u8]) -> Run {
     let mut now = run;
     let mut i = 0;
     while i < bytes.len() {
-        now = take_byte(now, bytes[i]);
+        now = take_byte(rt, now, bytes[i]);
         i += 1;
     }
     now
 }
 
-fn take_chunk(run: Run) -> Turn {
+// A read that fails ends the input.
+fn take_chunk(rt: &impl Print, input: &mut impl Read, run: Run) -> Turn {
     let mut chunk = [0u8; 4096];
-    let got = libc::read(STDIN_FILENO, &mut chunk);
-    let length = io::count(got, &chunk);
-    let next = take_bytes(run, &chunk[..length]);
+    let length = input.read(&mut chunk).unwrap_or(0);
+    let next = take_bytes(rt, run, &chunk[..length]);
     Turn {
         run: next,
-        more: got > 0,
+        more: length > 0,
     }
 }
 
 // A proved loop must end: no input has more chunks than this counts.
-fn take_all(run: Run) -> Run {
+fn take_all(rt: &impl Print, input: &mut impl Read, run: Run) -> Run {
     let mut turn = Turn {
         run: run,
         more: true,
@@ -113,19 +113,24 @@ fn take_all(run: Run) -> Run {
     let mut turns = u64::MAX;
     while turns > 0 && turn.more {
         let now = turn.run;
-        turn = take_chunk(now);
+        turn = take_chunk(rt, input, now);
         turns -= 1;
     }
     turn.run
 }
 
 // A last line with no line end counts, unless it is empty.
-fn main() {
-    let run = take_all(Run {
-        device: fresh(),
-        place: first_place(),
-    });
+fn main(rt: HostRuntime) {
+    let mut input = rt.stdin();
+    let run = take_all(
+        &rt,
+        &mut input,
+        Run {
+            device: fresh(),
+            place: first_place(),
+        },
+    );
     if run.place.begun {
-        end_line(run);
+        end_line(&rt, run);
     }
 }

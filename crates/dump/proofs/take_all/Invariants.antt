@@ -5,7 +5,7 @@ use borrow.Author.Rules.{rules}
 use Rattle.dump.proofs.take_all.Given as goal
 
 abbrev pub invariant-loop-turns : goal.invariant-loop-turns
-invariant-loop-turns l = length l.events ≡ length l.initial.events
+invariant-loop-turns g l = length l.events ≡ length l.initial.events
 
 abbrev pub decreases-loop-turns : goal.decreases-loop-turns
-decreases-loop-turns l = l.turns
+decreases-loop-turns g l = l.turns

@@ -17,4 +17,4 @@ returns c =
     puts_as (simp append_assoc)
     (puts_then (puts_one _ _ _ _ _ refl first.put.ensures)
     (puts_then (puts_one _ _ _ _ _ (omega arith) blank.put-2.ensures)
-    (puts_then value.put_byte-next.ensures.1 marks.put_byte.ensures.1)))
+    (puts_then value.put_byte-next.ensures.text marks.put_byte.ensures.text)))

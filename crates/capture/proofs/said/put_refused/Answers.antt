@@ -9,4 +9,4 @@ pub returns : goal.returns
 unfolding refused_text bytes_of
 returns c =
     let number = c in
-    puts_then number.put_bytes-begun.ensures number.put_byte.ensures.1
+    puts_then number.put_bytes-begun.ensures number.put_byte.ensures.text

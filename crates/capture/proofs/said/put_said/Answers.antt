@@ -8,13 +8,10 @@ use Rattle.capture.proofs.said.put_said.Goals as goal
 
 pub returns-then-captured-ne0 : goal.returns-then-captured-ne0
 returns-then-captured-ne0 c =
-    let put = c in
-    let test = put in
-    let read = test in
-    let start = read in
-    let p = put.Put-refused.ensures in
-    puts_front (puts_as (said-refused _ _ _ _ _ _ _ _ _ read.read_capture-captured.ensures test.if-captured-ne0.true) p)
-    (refused_ends read.read_capture-captured.result.number start.requires.2 p)
+    let p = c.put_refused.ensures in
+    let f = puts_front (puts_as (said-refused _ _ _ _ _ _ _ _ _ c.read_capture-captured.ensures c.if-captured-ne0.true) p)
+    (refused_ends c.read_capture-captured.result.number c.requires.2 p) in
+    record { within = f.0; text = f.1 }
 
 pub slice_bounds-put_lines-end : goal.slice_bounds-put_lines-end
 slice_bounds-put_lines-end c =
@@ -28,10 +25,8 @@ slice_bounds-put_lines-end-2 c =
 
 pub put_lines-after_a-requires : goal.put_lines-after_a-requires
 put_lines-after_a-requires c =
-    let a = c in
-    let read = a.read_capture-captured in
-    let start = a in
-    part_fits read.result.length_a read.new.1.1.1.1.0 (omega arith) a.log_a.given start.requires.0
+    let read = c.read_capture-captured in
+    part_fits read.result.length_a read.new.log_a (omega arith) read.auto.log_a c.requires.0
 
 pub slice_bounds-put_lines-end-3 : goal.slice_bounds-put_lines-end-3
 slice_bounds-put_lines-end-3 c =
@@ -45,28 +40,17 @@ slice_bounds-put_lines-end-4 c =
 
 pub put_lines-requires : goal.put_lines-requires
 put_lines-requires c =
-    let first = c in
-    let b = first in
-    let a = b in
-    let read = a.read_capture-captured in
-    let start = a in
-    let log = read.new.1.1.1.1 in
-    let end = part_ends 65 read.result.length_a log.0 a.log_a.given start.requires.0 first.put_lines-after_a.ensures in
-    part_fits read.result.length_b log.1.0 end b.log_b.given start.requires.1
+    let read = c.read_capture-captured in
+    let end = part_ends 65 read.result.length_a read.new.log_a read.auto.log_a c.requires.0 c.put_lines-after_a.ensures in
+    part_fits read.result.length_b read.new.log_b end read.auto.log_b c.requires.1
 
 pub returns : goal.returns
 returns c =
-    let second = c in
-    let first = second in
-    let test = first in
-    let b = test in
-    let a = b in
-    let read = a.read_capture-captured in
-    let start = a in
-    let log = read.new.1.1.1.1 in
-    let put = first.put_lines-after_a.ensures in
-    let then = second.put_lines.ensures in
-    let end = part_ends 65 read.result.length_a log.0 a.log_a.given start.requires.0 put in
-    let last = part_ends 66 read.result.length_b log.1.0 b.log_b.given start.requires.1 then in
-    puts_front (puts_as (said-lines _ _ _ _ _ _ _ _ _ read.ensures test.if-captured-ne0.false) (puts_then put then))
-    (omega (arith, end, last, start.requires.2))
+    let read = c.read_capture-captured in
+    let put = c.put_lines-after_a.ensures in
+    let then = c.put_lines.ensures in
+    let end = part_ends 65 read.result.length_a read.new.log_a read.auto.log_a c.requires.0 put in
+    let last = part_ends 66 read.result.length_b read.new.log_b read.auto.log_b c.requires.1 then in
+    let f = puts_front (puts_as (said-lines _ _ _ _ _ _ _ _ _ read.ensures c.if-captured-ne0.false) (puts_then put then))
+    (omega (arith, end, last, c.requires.2)) in
+    record { within = f.0; text = f.1 }

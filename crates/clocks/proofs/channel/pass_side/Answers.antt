@@ -1,11 +1,7 @@
 -- `pass_side` meets its contract: a divider's phase goes on by the sum, and no other's moves. Assumes nothing.
-use Prim.{tt}
 use Rattle.format.proofs.Laws.{steps}
 use Rattle.clocks.specs.Channel.{side_passed}
 use Rattle.clocks.proofs.channel.pass_side.Goals as goal
-
-pub wrapping_add_u64-requires : goal.wrapping_add_u64-requires
-wrapping_add_u64-requires c = tt
 
 pub returns-then-code-lt-TIMER_TOGGLE : goal.returns-then-code-lt-TIMER_TOGGLE
 unfolding side_passed

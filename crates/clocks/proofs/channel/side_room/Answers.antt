@@ -1,14 +1,7 @@
 -- `side_room` meets its contract: its divider's room is `room`'s. Assumes nothing.
-use Prim.{tt}
 use Rattle.format.proofs.Laws.{steps}
 use Rattle.clocks.specs.Channel.{side_room}
 use Rattle.clocks.proofs.channel.side_room.Goals as goal
-
-pub period_of-requires : goal.period_of-requires
-period_of-requires c = tt
-
-pub room-requires : goal.room-requires
-room-requires c = tt
 
 pub returns-then-code-lt-TIMER_TOGGLE : goal.returns-then-code-lt-TIMER_TOGGLE
 unfolding side_room

@@ -1,27 +1,8 @@
 -- `step_front` meets its contract: one arm a register, each the definition's. Assumes nothing.
-use Prim.{tt}
 use borrow.Author.Rules.{rules}
 use Rattle.format.specs.Pick.{pick}
 use Rattle.front_events.specs.FrontEvents.{front_stepped}
 use Rattle.front_events.proofs.front_events.step_front.Goals as goal
-
-pub reset_front-requires : goal.reset_front-requires
-reset_front-requires c = tt
-
-pub read_register-requires : goal.read_register-requires
-read_register-requires c = tt
-
-pub write_register-requires : goal.write_register-requires
-write_register-requires c = tt
-
-pub acknowledge-requires : goal.acknowledge-requires
-acknowledge-requires c = tt
-
-pub move_levels-requires : goal.move_levels-requires
-move_levels-requires c = tt
-
-pub tick_front-requires : goal.tick_front-requires
-tick_front-requires c = tt
 
 pub returns-in-ChipReset : goal.returns-in-ChipReset
 unfolding front_stepped pick

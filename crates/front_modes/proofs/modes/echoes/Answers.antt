@@ -1,9 +1,5 @@
 -- `echoes` meets its contract: its test is the definition's, of what its callee answers. Assumes nothing.
-use Prim.{tt}
 use Rattle.front_modes.proofs.modes.echoes.Goals as goal
-
-pub channel_mode-requires : goal.channel_mode-requires
-channel_mode-requires c = tt
 
 pub returns : goal.returns
 returns c = simp c.channel_mode.ensures

@@ -1,11 +1,7 @@
 -- `mode_feed` meets its contract: each way through the test is the definition's, with the callee's answer. Assumes nothing.
-use Prim.{tt}
 use Rattle.format.proofs.Laws.{steps}
 use Rattle.front_modes.specs.Modes.{mode_feed}
 use Rattle.front_modes.proofs.modes.mode_feed.Goals as goal
-
-pub changes_mode-requires : goal.changes_mode-requires
-changes_mode-requires c = tt
 
 pub returns-then-changes_mode : goal.returns-then-changes_mode
 unfolding mode_feed

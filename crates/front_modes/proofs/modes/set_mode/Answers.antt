@@ -1,17 +1,7 @@
 -- `set_mode` meets its contract: each way through the test is the definition's, with the callees' answers. Assumes nothing.
-use Prim.{tt}
 use Rattle.format.proofs.Laws.{steps}
 use Rattle.front_modes.specs.Modes.{mode_set}
 use Rattle.front_modes.proofs.modes.set_mode.Goals as goal
-
-pub write_mode-s-requires : goal.write_mode-s-requires
-write_mode-s-requires c = tt
-
-pub changes_mode-requires : goal.changes_mode-requires
-changes_mode-requires c = tt
-
-pub step_transmitter-transmitter-requires : goal.step_transmitter-transmitter-requires
-step_transmitter-transmitter-requires c = tt
 
 pub returns-then-changes_mode : goal.returns-then-changes_mode
 unfolding mode_set

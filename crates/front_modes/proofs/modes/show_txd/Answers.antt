@@ -1,18 +1,11 @@
 -- `show_txd` meets its contract: each way through the tests is the definition's, with the callees' answers. Assumes nothing.
-use Prim.{tt}
 use Rattle.format.proofs.Laws.{steps}
 use Rattle.front_modes.specs.Modes.{txd_shown}
 use Rattle.front_modes.proofs.modes.show_txd.Goals as goal
 
-pub is_local-requires : goal.is_local-requires
-is_local-requires c = tt
-
 pub returns-then-is_local : goal.returns-then-is_local
 unfolding txd_shown
 returns-then-is_local c = simp (← c.is_local.ensures) (search steps)
-
-pub echoes-requires : goal.echoes-requires
-echoes-requires c = tt
 
 pub returns-then-echoes : goal.returns-then-echoes
 unfolding txd_shown

@@ -1,10 +1,6 @@
 -- `change_set` meets its contract: it is what its callees answer. Assumes nothing.
-use Prim.{tt}
 use Rattle.front_side.specs.Side.{set_changed}
 use Rattle.front_side.proofs.side.change_set.Goals as goal
-
-pub restart_on_change-phases-requires : goal.restart_on_change-phases-requires
-restart_on_change-phases-requires c = tt
 
 pub returns : goal.returns
 unfolding set_changed

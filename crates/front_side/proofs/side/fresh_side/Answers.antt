@@ -1,13 +1,6 @@
 -- `fresh_side` meets its contract: it is what its callees answer. Assumes nothing.
-use Prim.{tt}
 use Rattle.front_side.specs.Side.{fresh_side}
 use Rattle.front_side.proofs.side.fresh_side.Goals as goal
-
-pub fresh_transmitter-requires : goal.fresh_transmitter-requires
-fresh_transmitter-requires c = tt
-
-pub restart-requires : goal.restart-requires
-restart-requires c = tt
 
 pub returns : goal.returns
 unfolding fresh_side

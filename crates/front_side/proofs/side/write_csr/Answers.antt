@@ -1,10 +1,6 @@
 -- `write_csr` meets its contract: it is what its callees answer. Assumes nothing.
-use Prim.{tt}
 use Rattle.front_side.specs.Side.{csr_written}
 use Rattle.front_side.proofs.side.write_csr.Goals as goal
-
-pub restart-restarted-requires : goal.restart-restarted-requires
-restart-restarted-requires c = tt
 
 pub returns : goal.returns
 unfolding csr_written

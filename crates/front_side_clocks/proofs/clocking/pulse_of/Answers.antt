@@ -1,11 +1,7 @@
 -- `pulse_of` meets its contract: each way through the test is the definition's, with the callee's answer. Assumes nothing.
-use Prim.{tt}
 use Rattle.format.proofs.Laws.{steps}
 use Rattle.front_side_clocks.specs.Clocking.{pulse_of}
 use Rattle.front_side_clocks.proofs.clocking.pulse_of.Goals as goal
-
-pub setting_of-requires : goal.setting_of-requires
-setting_of-requires c = tt
 
 pub returns-then-pulse : goal.returns-then-pulse
 unfolding pulse_of

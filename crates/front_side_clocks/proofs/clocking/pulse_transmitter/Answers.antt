@@ -1,18 +1,8 @@
 -- `pulse_transmitter` meets its contract: each way through the tests is the definition's, with the callee's answer. Assumes nothing.
-use Prim.{tt}
 use Rattle.format.proofs.Laws.{steps}
 use Rattle.transmitter.specs.Transmitter.{after_input}
 use Rattle.front_side_clocks.specs.Clocking.{transmitter_pulsed}
 use Rattle.front_side_clocks.proofs.clocking.pulse_transmitter.Goals as goal
-
-pub echoes-requires : goal.echoes-requires
-echoes-requires c = tt
-
-pub is_sixteen-requires : goal.is_sixteen-requires
-is_sixteen-requires c = tt
-
-pub pulse-requires : goal.pulse-requires
-pulse-requires c = tt
 
 pub returns-then-pulse-echoes : goal.returns-then-pulse-echoes
 unfolding transmitter_pulsed after_input

@@ -1,11 +1,7 @@
 -- `take_echo` meets its contract: each way through the test is the definition's. Assumes nothing.
-use Prim.{tt}
 use Rattle.format.proofs.Laws.{steps}
 use Rattle.front_side_clocks.specs.Clocking.{echo_taken}
 use Rattle.front_side_clocks.proofs.clocking.take_echo.Goals as goal
-
-pub echoes-requires : goal.echoes-requires
-echoes-requires c = tt
 
 pub returns-then-pulse-side : goal.returns-then-pulse-side
 unfolding echo_taken

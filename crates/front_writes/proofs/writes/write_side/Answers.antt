@@ -1,45 +1,20 @@
 -- `write_side` meets its contract: one arm a register, each the definition's. Assumes nothing.
-use Prim.{tt}
 use Rattle.format.proofs.Laws.{steps}
 use Rattle.format.specs.Pick.{pick}
 use Rattle.front_writes.specs.Writes.{side_written}
 use Rattle.front_writes.proofs.writes.write_side.Goals as goal
 
-pub set_mode-requires : goal.set_mode-requires
-set_mode-requires c = tt
-
-pub mode_feed-requires : goal.mode_feed-requires
-mode_feed-requires c = tt
-
-pub hand_side-requires : goal.hand_side-requires
-hand_side-requires c = tt
-
-pub write_csr-requires : goal.write_csr-requires
-write_csr-requires c = tt
-
-pub hand_side-requires-in-1 : goal.hand_side-requires-in-1
-hand_side-requires-in-1 c = tt
-
-pub command-requires : goal.command-requires
-command-requires c = tt
-
-pub write_buffer-requires : goal.write_buffer-requires
-write_buffer-requires c = tt
-
-pub hand_side-requires-in_default : goal.hand_side-requires-in_default
-hand_side-requires-in_default c = tt
-
 pub returns-in-0 : goal.returns-in-0
 unfolding side_written pick
-returns-in-0 c = simp (c.hand_side.ensures, c.mode_feed.ensures, c.set_mode.ensures, c.in-0.keys1)
+returns-in-0 c = simp (c.hand_side.ensures, c.mode_feed.ensures, c.set_mode.ensures, c.in-0.is)
 
 pub returns-in-1 : goal.returns-in-1
 unfolding side_written pick
-returns-in-1 c = simp (c.hand_side2.ensures, c.write_csr.ensures, c.in-0.keys2)
+returns-in-1 c = simp (c.hand_side-in-1.ensures, c.write_csr.ensures, c.in-1.is)
 
 pub returns-in-2 : goal.returns-in-2
 unfolding side_written pick
-returns-in-2 c = simp (c.command.ensures, c.in-2.keys3)
+returns-in-2 c = simp (c.command.ensures, c.in-2.is)
 
 pub returns-in_default : goal.returns-in_default
 unfolding side_written

@@ -6,27 +6,27 @@ use Rattle.records.proofs.records.event_of.Goals as goal
 
 pub returns-in-0 : goal.returns-in-0
 unfolding event_of pick
-returns-in-0 c = simp c.in-0.keys1
+returns-in-0 c = simp c.in-0.is
 
 pub returns-in-1 : goal.returns-in-1
 unfolding event_of pick
-returns-in-1 c = simp c.in-0.keys2
+returns-in-1 c = simp c.in-1.is
 
 pub returns-in-2 : goal.returns-in-2
 unfolding event_of pick
-returns-in-2 c = simp c.in-2.keys3
+returns-in-2 c = simp c.in-2.is
 
 pub returns-in-3 : goal.returns-in-3
 unfolding event_of pick
-returns-in-3 c = simp c.in-3.keys4
+returns-in-3 c = simp c.in-3.is
 
 pub returns-in-4 : goal.returns-in-4
 unfolding event_of pick
-returns-in-4 c = simp c.in-4.keys5
+returns-in-4 c = simp c.in-4.is
 
 pub returns-in-5 : goal.returns-in-5
 unfolding event_of pick
-returns-in-5 c = simp c.in-5.keys6
+returns-in-5 c = simp c.in-5.is
 
 pub returns-in_default : goal.returns-in_default
 unfolding event_of

@@ -1,14 +1,7 @@
 -- `timer_room` meets its contract: its test is `runs`'s. Assumes nothing.
-use Prim.{tt}
 use Rattle.format.proofs.Laws.{steps}
 use Rattle.timer.specs.Passing.{timer_room}
 use Rattle.timer.proofs.passing.timer_room.Goals as goal
-
-pub runs-requires : goal.runs-requires
-runs-requires c = tt
-
-pub running_room-requires : goal.running_room-requires
-running_room-requires c = tt
 
 pub returns-then-runs : goal.returns-then-runs
 unfolding timer_room

@@ -1,7 +1,0 @@
--- `tick_front` meets its contract: it is what its callees answer. Assumes nothing.
-use Prim.{tt}
-use borrow.Author.Rules.{rules}
-use Rattle.front_clocks.proofs.clocking.tick_front.Goals as goal
-
-pub clock-requires : goal.clock-requires
-clock-requires c = tt
