@@ -1,7 +1,7 @@
 /*
  * The MC68681 serial chip (DUART), proved: what a board maker links.
  *
- * `rt staticlib duart` writes target/staticlib/libduart.a, which holds the nine functions below. Each is proved to
+ * `host/built duart` writes target/staticlib/libduart.a, which holds the nine functions below. Each is proved to
  * meet its contract (crates/duart/src/duart.rt) for every argument, so a caller owes no more than this:
  *
  *  - pointers lead to what they say, and are used by no other thread during the call;

@@ -1,4 +1,4 @@
-//! Links the archive that `rt staticlib duart` writes. `DUART_ARCHIVE_DIR` names another folder that holds it. Where
+//! Links the archive that `host/built duart` writes. `DUART_ARCHIVE_DIR` names another folder that holds it. Where
 //! there is none, the build stops here with a sentence, and not later in the linker.
 
 use std::env;
@@ -29,7 +29,7 @@ pub fn archive_in(folder: &Path) -> Result<PathBuf, String> {
         return Ok(archive);
     }
     Err(format!(
-        "duart: there is no libduart.a in {}: run `rt staticlib duart` in the repository's root first, or name the \
+        "duart: there is no libduart.a in {}: run `host/built duart` in the repository's root first, or name the \
          folder that has it in DUART_ARCHIVE_DIR",
         folder.display()
     ))

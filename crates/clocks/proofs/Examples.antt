@@ -1,5 +1,5 @@
 -- One case of each code's source, and a restart: each is computed. Assumes nothing.
-use Rattle.std.proofs.Common.{◌≡◌, ℕ, Bool, true, false, List, [], ◌∷◌, replicate, refl}
+use Rattle.std.proofs.Common.{◌≡◌, ℕ, Bool, true, false, [], ◌∷◌, replicate, refl}
 use Rattle.format.specs.Pick.{pick}
 use Rattle.format.proofs.Laws.Numbers.{listed}
 use Rattle.dividers.specs.Divider.{divided_of, sixteenth_of}

@@ -1,3 +1,2 @@
--- The proofs of the board: the machine values that its walks move, the wrong answers that are shut out, and a file a function.
-pub mod Machine
+-- The proofs of the board: the wrong answers that are shut out, and a file a function.
 mod ShutOut

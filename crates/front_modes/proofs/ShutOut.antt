@@ -1,14 +1,12 @@
 -- Wrong answers, each shut out by a definition: a routine that gave it would not meet its contract. Assumes nothing.
 use Prim.Native.Nat.{ℕ, ◌+◌, ◌*◌}
-use mathlib.Core.Path.{◌≡◌, ap}
-use mathlib.Core.Bool.{Bool, true, false, not, ◌&&◌, true≢false, false≢true}
+use mathlib.Core.Path.{◌≡◌}
+use mathlib.Core.Bool.{true, false, not, ◌&&◌, true≢false, false≢true}
 use native.Mathlib.Omega.{arith}
 use lib.Dec.{eqb}
 use Rattle.format.specs.Pick.{pick}
-use Rattle.clocks.specs.Channel.{restarted}
-use Rattle.feed.specs.declared.feed.Effect.TheVariants.{NoEffect, Reset}
-use Rattle.feed.specs.declared.feed.Enabling.TheVariants.{Stays, Enables}
-use Rattle.feed.specs.declared.feed.Feed.{Feed}
+use Rattle.feed.specs.declared.feed.Effect.TheVariants.{Reset}
+use Rattle.feed.specs.declared.feed.Enabling.TheVariants.{Stays}
 use Rattle.feed.specs.declared.feed.Feed.TheVariants.{Nothing, Command}
 use Rattle.transmitter_state.specs.State as Transmitters
 use Rattle.transmitter.specs.declared.transmitter.Input.TheVariants.{Reset as ResetTransmitter}

@@ -4,8 +4,7 @@ use mathlib.Core.Path.{◌≡◌, ap}
 use mathlib.Core.Bool.{Bool, true, false, true≢false, false≢true}
 use native.Mathlib.Omega.{arith}
 use Rattle.format.specs.Pick.{pick}
-use Rattle.clocks.specs.declared.channel.Phases.{Phases}
-use Rattle.clocks.specs.Channel.{restarted, is_sixteen, side_of, transmitter1x, clocked_of}
+use Rattle.clocks.specs.Channel.{restarted, side_of, transmitter1x, clocked_of}
 use Rattle.feed.specs.declared.feed.Feed.{Feed}
 use Rattle.feed.specs.declared.feed.Feed.TheVariants.{Nothing, Pulse, Command, Read, ChipReset}
 use Rattle.inputs.specs.declared.inputs.ChannelPins.{ChannelPins}
@@ -15,7 +14,7 @@ use Rattle.transmitter.specs.declared.transmitter.Input.TheVariants as Input
 use Rattle.transmitter.specs.Transmitter.{after_input}
 use Rattle.front_side.specs.declared.side.Side.{Side}
 use Rattle.front_side.specs.Side.{fresh_side, with_modes, with_enabled, with_transmitter, with_clocks}
-use Rattle.front_side_clocks.specs.Clocking.{transmitter_pulsed, echo_taken, setting_of, pulse_of, line_of, side_clocked}
+use Rattle.front_side_clocks.specs.Clocking.{transmitter_pulsed, echo_taken, pulse_of, line_of, side_clocked}
 
 -- MR1 19 and MR2 7 in this mode, an enabled receiver, and CSR
 abbrev within : ℕ → ℕ → Side

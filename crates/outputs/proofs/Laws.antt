@@ -2,7 +2,7 @@
 use Prim.Native.Nat.{ℕ, ◌-◌, ◌<◌}
 use mathlib.Core.Path.{◌≡◌, refl, ap}
 use mathlib.Core.Bool.{Bool}
-use mathlib.Core.List.{List, [], ◌∷◌}
+use mathlib.Core.List.{[], ◌∷◌}
 use Rattle.format.proofs.Laws.Numbers.{accepted}
 use Rattle.format.specs.Pick.{pick}
 use Rattle.byte_bits.specs.Bytes.{has_bit}

@@ -1,6 +1,6 @@
 -- The statements on the counter/timer shut wrong ones out. Each is ours but for one fault, and each is refuted by computing a few pulses:
 -- `Counts` is false of five, `Toggles` of eight, `Leaves` of one, `Obeys` of seven, `Sources` of three, `AlwaysRuns` of two. Assumes nothing.
-use Rattle.std.proofs.Common.{◌≡◌, ℕ, ◌-◌, Bool, true, false, not, ◌&&◌, ◌||◌, eqb, [], ◌∷◌, sym, refl, ap, true≢false, arith}
+use Rattle.std.proofs.Common.{◌≡◌, ℕ, Bool, true, false, not, ◌&&◌, ◌||◌, eqb, [], ◌∷◌, sym, refl, ap, true≢false, arith}
 use Rattle.format.specs.Pick.{pick}
 use Rattle.dividers.specs.Divider.{divided_of, sixteenth_of}
 use Rattle.timer_state.specs.declared.counting.Counted.{Counted}

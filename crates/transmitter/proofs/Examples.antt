@@ -8,7 +8,7 @@ use lib.ListN.{length, replicate}
 use Rattle.format.specs.Format.{format_of}
 use Rattle.format.specs.Pick.{pick}
 use Rattle.format.specs.Stop.{stop_bits_of}
-use Rattle.frame.specs.Levels.{bits_before_stop_of, spread, frame, frame_length_of}
+use Rattle.frame.specs.Levels.{bits_before_stop_of, spread, frame_length_of}
 use Rattle.transmitter_state.specs.declared.sending.Standing.{Standing}
 use Rattle.transmitter_state.specs.declared.state.Transmitter.{Transmitter}
 use Rattle.transmitter_state.specs.State.{fresh_transmitter}

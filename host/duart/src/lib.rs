@@ -1,6 +1,6 @@
 //! The proved MC68681 serial chip, for Rust.
 //!
-//! The archive `libduart.a` holds the chip as `rt staticlib duart` compiles it from the proved source; this crate
+//! The archive `libduart.a` holds the chip as `host/built duart` compiles it from the proved source; this crate
 //! declares its nine names and gives them a safe face. What each call promises is the contract of the Rattle function
 //! of that name: every call on every device and every event ends with an answer, a refused event leaves the device as
 //! it was, and a refused frame request, poll, dump or capture leaves the space as it was.

@@ -12,7 +12,7 @@ fn a_folder_without_the_archive_stops_the_build_with_a_sentence() {
     let folder = Path::new(env!("CARGO_MANIFEST_DIR")).join("src");
     let sentence = archive_in(&folder).expect_err("the archive is not among the source");
     assert!(sentence.starts_with("duart: there is no libduart.a in "));
-    assert!(sentence.contains("run `rt staticlib duart`") && sentence.contains("DUART_ARCHIVE_DIR"));
+    assert!(sentence.contains("run `host/built duart`") && sentence.contains("DUART_ARCHIVE_DIR"));
     assert_eq!(sentence.lines().count(), 1);
 }
 

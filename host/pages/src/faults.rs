@@ -173,8 +173,8 @@ mod tests {
                 file: String::new(),
                 olds: Vec::new(),
             }],
-            refutations: set(&["no-idles"]),
-            words: set(&["stepOf", "no-idles"]),
+            refutations: set(&["no_idles"]),
+            words: set(&["step_of", "no_idles"]),
             paths: set(&["crates/a/src/lib.rt", "docs/x.md", "README.md"]),
             ..Source::default()
         }
@@ -192,7 +192,7 @@ mod tests {
 
     #[test]
     fn what_is_right_has_no_fault() {
-        let text = "`stepOf`, `crates/a/src/lib.rt`, `src/lib.rt`, *an_edit*, `no-idles`, [x](x.md), [r](../README.md)\n";
+        let text = "`step_of`, `crates/a/src/lib.rt`, `src/lib.rt`, *an_edit*, `no_idles`, [x](x.md), [r](../README.md)\n";
         assert_eq!(faults("docs/y.md", text), Vec::<String>::new());
     }
 
@@ -200,7 +200,7 @@ mod tests {
     fn each_fault_is_told() {
         let long = "x".repeat(201);
         let text = format!(
-            "*an_edit* `no-idles`\n`stepOver`\n`src/main.rt`\n*no_edit*\n[z](z.md)\n{long}\n"
+            "*an_edit* `no_idles`\n`stepOver`\n`src/main.rt`\n*no_edit*\n[z](z.md)\n{long}\n"
         );
         let told = [
             "docs/y.md:2: `stepOver` stands nowhere",
@@ -216,11 +216,11 @@ mod tests {
     fn what_no_page_cites_is_told() {
         let told = [
             "no page cites the edit an_edit",
-            "no page cites the refutation no-idles",
+            "no page cites the refutation no_idles",
         ];
-        assert_eq!(faults("docs/y.md", "`stepOf`\n"), told);
+        assert_eq!(faults("docs/y.md", "`step_of`\n"), told);
         assert_eq!(
-            faults("docs/landings/y.md", "*an_edit* `no-idles` `gone`\n"),
+            faults("docs/landings/y.md", "*an_edit* `no_idles` `gone`\n"),
             told
         );
     }

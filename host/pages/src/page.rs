@@ -25,7 +25,9 @@ pub fn read_all() -> io::Result<Vec<Page>> {
 impl Page {
     /// A page of the past is held to its links alone: what it names may be gone.
     pub fn is_history(&self) -> bool {
-        self.path == "CHANGELOG.md" || self.path.starts_with("docs/landings/")
+        self.path == "CHANGELOG.md"
+            || self.path == "docs/PORT.md"
+            || self.path.starts_with("docs/landings/")
     }
 
     /// Each line but those of an indented or fenced piece of text, with its number.

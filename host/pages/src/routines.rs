@@ -18,11 +18,14 @@ pub struct Routine {
 
 /// The names that a crate exports, from its lib.rt.
 pub fn exported(lib: &str) -> BTreeSet<String> {
-    let name_of = |line: &str| {
-        let path = line.strip_prefix("pub use ")?.strip_suffix(';')?;
-        path.rsplit("::").next().map(str::to_string)
-    };
-    lib.lines().filter_map(name_of).collect()
+    let items = lib.split("\npub use ").skip(1);
+    let names = items.filter_map(|rest| rest.split(';').next()?.rsplit("::").next());
+    names
+        .flat_map(|names| names.split(['{', '}', ','].as_slice()))
+        .map(str::trim)
+        .filter(|name| !name.is_empty())
+        .map(str::to_string)
+        .collect()
 }
 
 /// The functions of a file, each from its first line to the line `}` that ends it.
@@ -54,17 +57,16 @@ fn name_of(line: &str) -> Option<String> {
     Some(name.split(['(', '<']).next()?.to_string())
 }
 
-/// What stands between ⌜ and ⌝ after each `ensures`, on one line, with the label between.
+/// What stands between the braces after each `ensures`, on one line, with the label between.
 pub fn ensures(function: &str) -> Vec<(String, String)> {
     let mut found = Vec::new();
     let head = function.split("\n{\n").next().unwrap_or(function);
     for part in head.split("\n    ensures").skip(1) {
         let label = part.split('{').next().unwrap_or("").trim().to_string();
         let said = part
-            .split('⌜')
-            .nth(1)
-            .and_then(|rest| rest.split('⌝').next())
-            .unwrap_or("");
+            .split_once('{')
+            .and_then(|(_, rest)| rest.rsplit_once('}'))
+            .map_or("", |(said, _)| said);
         found.push((label, said.split_whitespace().collect::<Vec<_>>().join(" ")));
     }
     found
@@ -112,8 +114,8 @@ pub fn read(paths: &BTreeSet<String>) -> io::Result<Vec<Routine>> {
 mod tests {
     use super::*;
 
-    const TEXT: &str = "// one\npub fn one(a: u8) -> u8\n    ensures { λ r. ⌜ r ≡ oneOf a ⌝ }\n{\n    a\n}\n\nfn two(s: &mut [u8])\n    \
-        ensures answer { λ r. ⌜ r ≡ x\n        y ⌝ }\n    ensures space { λ _. ⌜ z ⌝ }\n{\n}\n";
+    const TEXT: &str = "// one\npub fn one(a: u8) -> u8\n    ensures { result ≡ one_of a }\n{\n    a\n}\n\nfn two(s: &mut [u8])\n    \
+        ensures answer { result ≡ x\n        y }\n    ensures space { z }\n{\n}\n";
 
     #[test]
     fn functions_and_what_they_ensure() {
@@ -127,10 +129,10 @@ mod tests {
         );
         assert_eq!(
             ensures(&found[0].1),
-            [("".to_string(), "r ≡ oneOf a".to_string())]
+            [("".to_string(), "result ≡ one_of a".to_string())]
         );
         let two = [
-            ("answer".to_string(), "r ≡ x y".to_string()),
+            ("answer".to_string(), "result ≡ x y".to_string()),
             ("space".to_string(), "z".to_string()),
         ];
         assert_eq!(ensures(&found[1].1), two);
@@ -138,10 +140,10 @@ mod tests {
 
     #[test]
     fn exported_names() {
-        let lib = "mod a;\npub use a::one;\npub use a::Type;\n";
+        let lib = "mod a;\npub use a::one;\npub use b::{\n    Type, two,\n};\n";
         assert_eq!(
             exported(lib).into_iter().collect::<Vec<_>>(),
-            ["Type", "one"]
+            ["Type", "one", "two"]
         );
     }
 }

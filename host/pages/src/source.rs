@@ -70,13 +70,13 @@ fn refutes(path: &str) -> bool {
         || path.contains("/demands_shut_out/proofs/")
 }
 
-/// `no-..`, a refutation: a name that a colon follows.
+/// `no_..`, a refutation: a name that a colon follows.
 pub fn refutations_of(text: &str) -> Vec<String> {
     let name_of = |line: &str| {
         let line = line.trim_start();
         let line = line.strip_prefix("pub ").unwrap_or(line);
         let name = line.split_whitespace().next()?;
-        (name.starts_with("no-") && line[name.len()..].starts_with(" :")).then(|| name.to_string())
+        (name.starts_with("no_") && line[name.len()..].starts_with(" :")).then(|| name.to_string())
     };
     text.lines().filter_map(name_of).collect()
 }
@@ -119,7 +119,7 @@ mod tests {
 
     #[test]
     fn a_refutation_is_a_name_with_a_type() {
-        let text = "pub no-idles : Demand3 c → ⊥\nno-idles h = x\n  pub no-other : ⊥\n-- no-comment :\nuse X.{no-use}\n";
-        assert_eq!(refutations_of(text), ["no-idles", "no-other"]);
+        let text = "pub no_idles : Demand3 c → ⊥\nno_idles h = x\n  pub no_other : ⊥\n-- no_comment :\nuse X.{no_use}\n";
+        assert_eq!(refutations_of(text), ["no_idles", "no_other"]);
     }
 }

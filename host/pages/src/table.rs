@@ -8,7 +8,7 @@ use std::fs;
 const HEAD: &str = "# Routine by routine
 
 Made by `pages routines` (host/pages) from the `ensures` of the source; the host's tests compare. One row an `ensures`: the
-routine's answer is `r`, what a lent space holds before and after is `now (space .entry)` and `now (space .exit)`. The edit
+routine's answer is `result`, what a lent space holds before and after is `space.old` and `space.new`. The edit
 in *italics* changes the routine, and the checker refuses it. A routine in brackets is not exported from its crate.
 
 | crate | routine | ensures | edits |

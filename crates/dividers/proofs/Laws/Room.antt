@@ -1,6 +1,6 @@
 -- Room for a tick is the divider's own rule: with room the next tick is no pulse and leaves one less, without it the next tick is
 -- the pulse. Assumes nothing.
-use Prim.Native.Nat.{ℕ, ◌+◌, ◌-◌, ◌<◌, ◌≤◌}
+use Prim.Native.Nat.{◌+◌, ◌<◌, ◌≤◌}
 use mathlib.Core.Path.{◌≡◌}
 use mathlib.Core.Bool.{true, false}
 use native.Mathlib.Omega.{arith}

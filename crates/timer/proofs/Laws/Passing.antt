@@ -1,13 +1,12 @@
 -- So many pulses from a count; and one tick within the room of the counter/timer: no pulse, or a pulse that is not terminal. It leaves
 -- one less of the room, and ticks add up. Assumes nothing.
-use Rattle.std.proofs.Common.{◌≡◌, ℕ, zero, suc, ◌+◌, ◌-◌, ◌*◌, ◌/◌, ◌%◌, ◌^◌, ◌<◌, ◌≤◌, Bool, true, false, not, ◌&&◌, ◌||◌, eqb, ltb, sym, refl, ap, ◌∙◌, true≢false, add-zero, add_assoc, mod-eq_of_lt, zero-add, arith, le-ltb, lt-ltb, ne_eqb}
+use Rattle.std.proofs.Common.{◌≡◌, ℕ, zero, suc, ◌+◌, ◌-◌, ◌*◌, ◌/◌, ◌%◌, ◌^◌, ◌<◌, ◌≤◌, Bool, true, false, ◌||◌, eqb, sym, refl, ap, ◌∙◌, true≢false, add-zero, add_assoc, mod-eq_of_lt, zero-add, arith, le-ltb, lt-ltb, ne_eqb}
 use native.Mathlib.Decide.{dec_lt}
 use native.Mathlib.Nat.{mod-add-mod}
 use lib.Dec.{eqb-suc-zero}
-use Rattle.format.specs.declared.counts.Ticks.{Ticks}
 use Rattle.format.specs.Digits.{bit}
 use Rattle.format.specs.Pick.{pick}
-use Rattle.dividers.specs.Divider.{divided_of, far_off}
+use Rattle.dividers.specs.Divider.{divided_of}
 use Rattle.dividers.proofs.Laws.Divider.{ticks_of}
 use Rattle.timer_state.specs.declared.counting.Counted.{Counted}
 use Rattle.timer_state.specs.declared.counting.Timer.{Timer}

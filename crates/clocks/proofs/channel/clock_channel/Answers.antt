@@ -1,5 +1,4 @@
 -- `clock_channel` meets its contract: it is what its callees answer. Assumes nothing.
-use Rattle.std.proofs.Common.{rules}
 use Rattle.clocks.specs.Channel.{clocked_of}
 use Rattle.clocks.proofs.channel.clock_channel.Goals as goal
 

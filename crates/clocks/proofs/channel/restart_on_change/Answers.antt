@@ -1,5 +1,4 @@
 -- `restart_on_change` meets its contract: each way through the tests is the definition's, with the callee's answer. Assumes nothing.
-use Rattle.std.proofs.Common.{rules}
 use Rattle.format.proofs.Laws.{steps}
 use Rattle.clocks.specs.Channel.{restarted_on_change}
 use Rattle.clocks.proofs.channel.restart_on_change.Goals as goal

@@ -1,5 +1,4 @@
 -- `side` meets its contract: each way through the tests is the definition's, with the callee's answer. Assumes nothing.
-use Rattle.std.proofs.Common.{rules}
 use Rattle.format.proofs.Laws.{steps}
 use Rattle.clocks.specs.Channel.{side_of}
 use Rattle.clocks.proofs.channel.side.Goals as goal

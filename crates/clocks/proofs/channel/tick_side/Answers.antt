@@ -1,5 +1,4 @@
 -- `tick_side` meets its contract: each way through the tests is the definition's, with the callee's answer. Assumes nothing.
-use Rattle.std.proofs.Common.{rules}
 use Rattle.format.proofs.Laws.{steps}
 use Rattle.clocks.specs.Channel.{ticked_of}
 use Rattle.clocks.proofs.channel.tick_side.Goals as goal

@@ -1,5 +1,4 @@
 -- `transmitter_1x` meets its contract: each way through the tests is the definition's, with the callee's answer. Assumes nothing.
-use Rattle.std.proofs.Common.{rules}
 use Rattle.format.proofs.Laws.{steps}
 use Rattle.clocks.specs.Channel.{transmitter1x}
 use Rattle.clocks.proofs.channel.transmitter_1x.Goals as goal

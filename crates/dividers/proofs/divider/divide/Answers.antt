@@ -1,7 +1,6 @@
 -- `divide` meets its contract: below the period a tick more can be counted, and the two tests are the one of the definition. Assumes nothing.
 use Prim.Native.Nat.{◌+◌, ◌≤◌, ◌<◌}
 use native.Mathlib.Omega.{arith}
-use borrow.Author.Rules.{rules}
 use borrow.Author.Tests.{lt-ltb, le-ltb}
 use Rattle.format.proofs.Laws.Pick.{pick_yes, pick_no}
 use Rattle.dividers.specs.Divider.{divided_of}

@@ -1,7 +1,6 @@
 -- `divide_by_16` meets its contract: below 15 there is room for one pulse more. Assumes nothing.
 use Prim.Native.Nat.{◌+◌, ◌≤◌, ◌<◌}
 use native.Mathlib.Omega.{arith}
-use borrow.Author.Rules.{rules}
 use borrow.Author.Tests.{lt-ltb, le-ltb}
 use Rattle.format.proofs.Laws.Pick.{pick_yes, pick_no}
 use Rattle.dividers.specs.Divider.{sixteenth_of}

@@ -2,7 +2,6 @@
 use Prim.Native.Nat.{◌+◌, ◌-◌}
 use mathlib.Core.Path.{◌≡◌, ap}
 use native.Mathlib.Omega.{arith}
-use borrow.Author.Rules.{rules}
 use Rattle.dividers.specs.Divider.{room_of}
 use Rattle.dividers.proofs.Laws.Divider.{ticks_of}
 use Rattle.dividers.proofs.divider.room.Goals as goal

@@ -1,5 +1,4 @@
 -- `period_of` meets its contract: it is the table that the set chooses. Assumes nothing.
-use borrow.Author.Rules.{rules}
 use Rattle.format.proofs.Laws.{steps}
 use Rattle.dividers.specs.Rates.{period_of}
 use Rattle.dividers.proofs.rates.period_of.Goals as goal

@@ -4,7 +4,6 @@ use Prim.Native.Nat.{ℕ, ◌≤◌}
 use mathlib.Core.Path.{◌≡◌, sym, ap₂, ◌∙◌}
 use mathlib.Core.Bool.{Bool, true, false, not, ◌&&◌}
 use native.Mathlib.Omega.{arith}
-use borrow.Author.Rules.{rules}
 use Rattle.format.proofs.Laws.Format.{width_most}
 use Rattle.frame.proofs.Laws.Register.{Weight, weight, parity_low, register_eq, register-high, register-low}
 use Rattle.format.specs.declared.format.Format.{Format}

@@ -3,7 +3,6 @@ use Prim.Native.Nat.{ℕ, ◌≤◌}
 use mathlib.Core.Path.{◌≡◌}
 use native.Mathlib.Nat.{one-mul}
 use native.Mathlib.Omega.{arith}
-use borrow.Author.Rules.{rules}
 use Rattle.format.specs.declared.counts.Bits.{Bits}
 use Rattle.format.specs.Format.{format_of}
 use Rattle.frame.specs.Levels.{bits_before_stop_of, frame_length_of}

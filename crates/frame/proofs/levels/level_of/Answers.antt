@@ -1,5 +1,4 @@
 -- `level_of` meets its contract: within the register its bit, and past it high. Assumes nothing.
-use borrow.Author.Rules.{rules}
 use Rattle.frame.specs.Levels.{level_of}
 use Rattle.format.proofs.Laws.{steps}
 use Rattle.frame.proofs.levels.level_of.Goals as goal

@@ -1,5 +1,4 @@
 -- `step_front` meets its contract: one arm a register, each the definition's. Assumes nothing.
-use borrow.Author.Rules.{rules}
 use Rattle.format.specs.Pick.{pick}
 use Rattle.front_events.specs.FrontEvents.{front_stepped}
 use Rattle.front_events.proofs.front_events.step_front.Goals as goal

@@ -1,5 +1,4 @@
 -- `front_data` meets its contract: one arm a register, each the definition's. Assumes nothing.
-use borrow.Author.Rules.{rules}
 use Rattle.format.proofs.Laws.{steps}
 use Rattle.format.specs.Pick.{pick}
 use Rattle.front_reads.specs.Reads.{front_data}

@@ -1,5 +1,4 @@
 -- `channel_pins` meets its contract: it is what its callees answer. Assumes nothing.
-use borrow.Author.Rules.{rules}
 use Rattle.inputs.proofs.inputs.channel_pins.Goals as goal
 
 pub returns : goal.returns

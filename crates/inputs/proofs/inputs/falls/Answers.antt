@@ -1,5 +1,4 @@
 -- `falls` meets its contract: it is what its callees answer. Assumes nothing.
-use borrow.Author.Rules.{rules}
 use Rattle.inputs.proofs.inputs.falls.Goals as goal
 
 pub returns : goal.returns

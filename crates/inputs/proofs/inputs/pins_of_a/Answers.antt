@@ -1,5 +1,4 @@
 -- `pins_of_a` meets its contract: it is what its callees answer. Assumes nothing.
-use borrow.Author.Rules.{rules}
 use Rattle.inputs.specs.Inputs.{pins_of_a}
 use Rattle.inputs.proofs.inputs.pins_of_a.Goals as goal
 

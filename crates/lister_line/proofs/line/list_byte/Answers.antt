@@ -20,8 +20,8 @@ loop-at-preserved c =
           (turn _ at.last at.line at.at at.invariant.2),
     )
 
-pub returns : goal.returns
-returns c =
+pub returns-clause-value : goal.returns-clause-value
+returns-clause-value c =
     let at = c.loop-at in
     let ten : at.at ≡ 10 = omega arith in
-    (ends _ _ _ at.last at.line at.at ten c.step-last.ensures at.invariant.2, omega arith)
+    ends _ _ _ at.last at.line at.at ten c.step-last.ensures at.invariant.2

@@ -1,5 +1,4 @@
 -- `driven_by` meets its contract: each way through the tests is the definition's, with the callee's answer. Assumes nothing.
-use borrow.Author.Rules.{rules}
 use Rattle.format.proofs.Laws.{steps}
 use Rattle.outputs.specs.Outputs.{driven_by}
 use Rattle.outputs.proofs.outputs.driven_by.Goals as goal

@@ -1,5 +1,4 @@
 -- `driven_op3` meets its contract: each way through the tests is the definition's, with the callee's answer. Assumes nothing.
-use borrow.Author.Rules.{rules}
 use Rattle.format.proofs.Laws.{steps}
 use Rattle.outputs.specs.Outputs.{driven_op3}
 use Rattle.outputs.proofs.outputs.driven_op3.Goals as goal

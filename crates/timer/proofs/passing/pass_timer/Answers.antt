@@ -1,5 +1,4 @@
 -- `pass_timer` meets its contract: the phase is the sum's, the count its callees'. Assumes nothing.
-use Rattle.std.proofs.Common.{rules}
 use Rattle.format.proofs.Laws.{steps}
 use Rattle.timer.specs.Passing.{timer_passed}
 use Rattle.timer.proofs.passing.pass_timer.Goals as goal

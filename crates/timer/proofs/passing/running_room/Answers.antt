@@ -1,5 +1,4 @@
 -- `running_room` meets its contract: its tests are `tick_pulses`'s. Assumes nothing.
-use Rattle.std.proofs.Common.{rules}
 use Rattle.format.proofs.Laws.{steps}
 use Rattle.timer.specs.Passing.{running_room}
 use Rattle.timer.proofs.Laws.Passing.{counted_one}

@@ -1,5 +1,4 @@
 -- `sixteenths_room` meets its contract: its test is the definition's. Assumes nothing.
-use Rattle.std.proofs.Common.{rules}
 use Rattle.format.proofs.Laws.{steps}
 use Rattle.timer.specs.Passing.{sixteenths_room}
 use Rattle.timer.proofs.passing.sixteenths_room.Goals as goal

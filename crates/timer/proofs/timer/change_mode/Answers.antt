@@ -1,5 +1,4 @@
 -- `change_mode` meets its contract: each way through the tests is the definition's, with the callee's answer. Assumes nothing.
-use Rattle.std.proofs.Common.{rules}
 use Rattle.format.proofs.Laws.{steps}
 use Rattle.timer.specs.Timer.{mode_changed}
 use Rattle.timer.proofs.timer.change_mode.Goals as goal

@@ -1,5 +1,4 @@
 -- `start_counter` meets its contract: each way through the tests is the definition's, with the callee's answer. Assumes nothing.
-use Rattle.std.proofs.Common.{rules}
 use Rattle.format.proofs.Laws.{steps}
 use Rattle.timer.specs.Timer.{started_of}
 use Rattle.timer.proofs.timer.start_counter.Goals as goal

@@ -1,5 +1,4 @@
 -- `step_by_tick` meets its contract: it is what its callees answer. Assumes nothing.
-use Rattle.std.proofs.Common.{rules}
 use Rattle.timer.specs.Timer.{ticked_by}
 use Rattle.timer.proofs.timer.step_by_tick.Goals as goal
 

@@ -1,5 +1,4 @@
 -- `step_by_transmitter` meets its contract: it is what its callees answer. Assumes nothing.
-use Rattle.std.proofs.Common.{rules}
 use Rattle.timer.proofs.timer.step_by_transmitter.Goals as goal
 
 pub returns : goal.returns

@@ -1,5 +1,4 @@
 -- `stop_counter` meets its contract: each way through the tests is the definition's, with the callee's answer. Assumes nothing.
-use Rattle.std.proofs.Common.{rules}
 use Rattle.format.proofs.Laws.{steps}
 use Rattle.timer.specs.Timer.{stopped_of}
 use Rattle.timer.proofs.timer.stop_counter.Goals as goal

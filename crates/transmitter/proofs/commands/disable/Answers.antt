@@ -1,5 +1,4 @@
 -- `disable` meets its contract: it is what its callees answer. Assumes nothing.
-use borrow.Author.Rules.{rules}
 use Rattle.transmitter.proofs.commands.disable.Goals as goal
 
 pub returns : goal.returns

@@ -1,5 +1,4 @@
 -- `drop_all` meets its contract: each way through the tests is the definition's, with the callee's answer. Assumes nothing.
-use borrow.Author.Rules.{rules}
 use Rattle.format.proofs.Laws.{steps}
 use Rattle.transmitter.specs.Commands.{dropped_of}
 use Rattle.transmitter.proofs.commands.drop_all.Goals as goal

@@ -1,5 +1,4 @@
 -- `end_break` meets its contract: each way through the tests is the definition's, with the callee's answer. Assumes nothing.
-use borrow.Author.Rules.{rules}
 use Rattle.format.proofs.Laws.{steps}
 use Rattle.transmitter.specs.Commands.{break_ended}
 use Rattle.transmitter.proofs.commands.end_break.Goals as goal

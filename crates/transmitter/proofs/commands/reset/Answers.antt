@@ -1,5 +1,4 @@
 -- `reset` meets its contract: it is what its callees answer. Assumes nothing.
-use borrow.Author.Rules.{rules}
 use Rattle.transmitter.proofs.commands.reset.Goals as goal
 
 pub returns : goal.returns

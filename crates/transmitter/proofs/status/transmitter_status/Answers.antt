@@ -1,5 +1,4 @@
 -- `transmitter_status` meets its contract: it is what its callees answer. Assumes nothing.
-use borrow.Author.Rules.{rules}
 use Rattle.transmitter.proofs.status.transmitter_status.Goals as goal
 
 pub returns : goal.returns

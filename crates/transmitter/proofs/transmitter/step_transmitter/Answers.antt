@@ -1,5 +1,4 @@
 -- `step_transmitter` meets its contract: one arm an input, each the callee's answer. Assumes nothing.
-use borrow.Author.Rules.{rules}
 use Rattle.transmitter.specs.Transmitter.{after_input}
 use Rattle.transmitter.proofs.transmitter.step_transmitter.Goals as goal
 

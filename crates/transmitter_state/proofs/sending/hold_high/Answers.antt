@@ -1,5 +1,4 @@
 -- `hold_high` meets its contract: each way through the tests is the definition's, with the callee's answer. Assumes nothing.
-use borrow.Author.Rules.{rules}
 use Rattle.format.proofs.Laws.{steps}
 use Rattle.transmitter_state.specs.Sending.{held_high}
 use Rattle.transmitter_state.proofs.sending.hold_high.Goals as goal

@@ -1,7 +1,6 @@
 -- `pulse_between` meets its contract: each way through the tests is the definition's, with the callee's answer. Assumes nothing.
 use mathlib.Core.Path.{◌≡◌, refl}
 use mathlib.Core.Bool.{Bool, true, false, ◌&&◌}
-use borrow.Author.Rules.{rules}
 use Rattle.format.specs.Pick.{pick}
 use Rattle.format.proofs.Laws.{steps}
 use Rattle.transmitter_state.specs.Sending.{sent_on_of, pulsed_of}

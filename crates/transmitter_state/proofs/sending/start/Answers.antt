@@ -1,5 +1,4 @@
 -- `start` meets its contract: it is what its callees answer. Assumes nothing.
-use borrow.Author.Rules.{rules}
 use Rattle.transmitter_state.proofs.sending.start.Goals as goal
 
 pub returns : goal.returns

@@ -1,5 +1,4 @@
 -- `take_frame` meets its contract: it is what its callees answer. Assumes nothing.
-use borrow.Author.Rules.{rules}
 use Rattle.transmitter_state.specs.Sending.{taken_of}
 use Rattle.transmitter_state.proofs.sending.take_frame.Goals as goal
 

@@ -1,5 +1,4 @@
 -- `fresh_transmitter` meets its contract: it is what its callees answer. Assumes nothing.
-use borrow.Author.Rules.{rules}
 use Rattle.transmitter_state.proofs.state.fresh_transmitter.Goals as goal
 
 pub returns : goal.returns

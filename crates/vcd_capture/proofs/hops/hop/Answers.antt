@@ -15,7 +15,7 @@ returns-then-left-eq0 c =
 pub returns-then-sampler-eq-STARTING : goal.returns-then-sampler-eq-STARTING
 returns-then-sampler-eq-STARTING c =
     let a = c.args in
-    hops_as (c.stay.ensures ∙ rw (c.starting_at.ensures, c.left_After.ensures, c.pass.ensures))
+    hops_as (c.stay.ensures ∙ rw (c.starting_at.ensures, c.left_after.ensures, c.pass.ensures))
     (start-hops a.level a.setting a.sampler a.most c.if-sampler-eq-STARTING.true (omega (arith, c.if-left-eq0.false)) c.requires)
 
 pub returns-then-left-eq0-2 : goal.returns-then-left-eq0-2

@@ -14,14 +14,14 @@ returns-then-not-is_sound c =
     let a = c.args in
     let u = sym c.is_sound.ensures ∙ c.if-not-is_sound.true in
     let r = refused a.device a.events.now a.space.now 1 refl (one a.device a.events.now a.space.now u) in
-    (c.refuse.ensures ∙ r.0, r.1)
+    record { answer = c.refuse.ensures ∙ r.0; space = r.1 }
 
 pub returns-then-events-gt-MOST_EVENTS : goal.returns-then-events-gt-MOST_EVENTS
 returns-then-events-gt-MOST_EVENTS c =
     let a = c.args in
     let u = sym c.is_sound.ensures ∙ c.if-not-is_sound.false in
     let r = refused a.device a.events.now a.space.now 9 refl (nine a.device a.events.now a.space.now u c.if-events-gt-MOST_EVENTS.true) in
-    (c.refuse-then-events-gt-MOST_EVENTS.ensures ∙ r.0, r.1)
+    record { answer = c.refuse-then-events-gt-MOST_EVENTS.ensures ∙ r.0; space = r.1 }
 
 pub write_waves-needed-requires : goal.write_waves-needed-requires
 write_waves-needed-requires c =
@@ -34,7 +34,7 @@ returns-then-space-needed c =
     let l = c.write_waves-needed.ensures.ends in
     let r = refused a.device a.events.now a.space.now 8 refl
     (eight a.device a.events.now a.space.now u c.if-events-gt-MOST_EVENTS.false (omega (arith, l, c.if-space-needed.true))) in
-    (c.refuse-then-space-needed.ensures ∙ r.0, r.1)
+    record { answer = c.refuse-then-space-needed.ensures ∙ r.0; space = r.1 }
 
 pub write_waves-length-requires : goal.write_waves-length-requires
 write_waves-length-requires c =
@@ -46,5 +46,6 @@ returns c =
     let u = sym c.is_sound.ensures ∙ c.if-not-is_sound.false in
     let l = c.write_waves-needed.ensures.ends in
     let fits : length (text_of a.device a.events.now) ≤ length a.space.now = omega (arith, l, c.if-space-needed.false) in
-    accepted a.device a.events.now a.space.now _ _ c.write_waves-length.ensures fits
-    (none a.device a.events.now a.space.now u c.if-events-gt-MOST_EVENTS.false fits)
+    let r = accepted a.device a.events.now a.space.now _ _ c.write_waves-length.ensures fits
+    (none a.device a.events.now a.space.now u c.if-events-gt-MOST_EVENTS.false fits) in
+    record { answer = r.0; space = r.1 }

@@ -12,49 +12,35 @@ use Rattle.vcd_dump.proofs.Laws.Rest.{text_is}
 use Rattle.vcd_dump.proofs.Laws.Stands.{Stands, small, stands_on, stands-refused, stands-end}
 use Rattle.vcd_dump.proofs.waves.write_waves.Goals as goal
 
-abbrev begun : (c : tie.At-loop invariant-loop decreases-loop) → tie.After-put-header invariant-loop decreases-loop
-begun c = c
-
--- a wave has room for one time more
-fits : (c : tie.At-loop invariant-loop decreases-loop)
-    → (c.loop-i.wave.at + 55 < 2 ^ 64) × (c.loop-i.wave < 2 ^ 11) × (c.loop-i.wave.values < 2 ^ 11)
-fits c =
-    let st = c.loop-i.invariant.1 in
-    let b = (begun c).put_header-begun.ensures.ends in
-    (omega (arith, st.place, b, header_length, (begun c).requires.1), st, small _ _ _ _ st)
-
-few : (c : tie.At-loop invariant-loop decreases-loop) → length (begun c).args.events.now / 3 ≤ 1000000
-few c = (begun c).requires.1
-
 pub loop-i-init : goal.loop-i-init
-loop-i-init c =
-    (
-      omega arith,
-      record {
-        sound = c.requires.0;
-        values = c.values_of.ensures ∙ rw c.device_lines.ensures;
-        before = omega arith;
-        tick = omega arith;
-        place = omega arith;
-        same = refl;
-        left = left_all _ _ _;
-      },
-    )
+loop-i-init c = (
+  omega arith,
+  record {
+    sound = c.requires.0;
+    values = c.values_of.ensures ∙ rw c.device_lines.ensures;
+    before = omega arith;
+    tick = omega arith;
+    place = omega arith;
+    same = refl;
+    left = left_all _ _ _;
+  },
+)
 
 pub put_changes-requires : goal.put_changes-requires
 put_changes-requires c =
-    fits c
+    let st = c.loop-i.invariant.1 in
+    (omega (arith, st.place, c.put_header-begun.ensures.ends, header_length, c.requires.1), st.before, small _ _ _ _ st)
 
 pub shape_of-space-then-answer-ne0 : goal.shape_of-space-then-answer-ne0
 shape_of-space-then-answer-ne0 c =
-    puts_length c.put_changes.ensures ∙ c.loop-i.invariant.1.same ∙ puts_length (begun c).put_header-begun.ensures
+    puts_length c.put_changes.ensures ∙ c.loop-i.invariant.1.same ∙ puts_length c.put_header-begun.ensures
 
 pub returns-then-answer-ne0 : goal.returns-then-answer-ne0
 returns-then-answer-ne0 c =
     let st = c.loop-i.invariant.1 in
-    let a = (begun c).args in
+    let a = c.args in
     puts_as (text_is _ a.device a.events.now refl)
-    (puts_then (begun c).put_header-begun.ensures
+    (puts_then c.put_header-begun.ensures
     (stands-refused _ _ _ _ c.loop-i.i c.record_at-event.result c.sound_step-answer.result (omega arith) st c.record_at-event.ensures
     (c.sound_step-answer.ensures ∙ sound_answer_lem c.loop-i.state _ st.sound ∙ ap (step_of c.loop-i.state) c.event_of.ensures)
     c.if-answer-ne0.true
@@ -62,12 +48,16 @@ returns-then-answer-ne0 c =
 
 pub add_event-wave-requires : goal.add_event-wave-requires
 add_event-wave-requires c =
-    let f = fits c in
-    (f.0, f.1, f.2, omega (arith, c.loop-i.invariant.1.tick, few c, c.loop-i-test.true))
+    let st = c.loop-i.invariant.1 in (
+      omega (arith, st.place, c.put_header-begun.ensures.ends, header_length, c.requires.1),
+      st.before,
+      small _ _ _ _ st,
+      omega (arith, st.tick, c.requires.1, c.loop-i-test.true),
+    )
 
 pub overflow_add-i : goal.overflow_add-i
 overflow_add-i c =
-    omega (arith, few c, c.loop-i-test.true)
+    omega (arith, c.requires.1, c.loop-i-test.true)
 
 pub loop-i-preserved : goal.loop-i-preserved
 loop-i-preserved c =
@@ -80,15 +70,17 @@ loop-i-preserved c =
     )
 
 pub put_changes-requires-2 : goal.put_changes-requires-2
-put_changes-requires-2 c = fits c
+put_changes-requires-2 c =
+    let st = c.loop-i.invariant.1 in
+    (omega (arith, st.place, c.put_header-begun.ensures.ends, header_length, c.requires.1), st.before, small _ _ _ _ st)
 
 pub shape_of-space : goal.shape_of-space
 shape_of-space c =
-    puts_length c.put_changes-2.ensures ∙ c.loop-i.invariant.1.same ∙ puts_length (begun c).put_header-begun.ensures
+    puts_length c.put_changes-2.ensures ∙ c.loop-i.invariant.1.same ∙ puts_length c.put_header-begun.ensures
 
 pub returns : goal.returns
 returns c =
-    let a = (begun c).args in
+    let a = c.args in
     puts_as (text_is _ a.device a.events.now refl)
-    (puts_then (begun c).put_header-begun.ensures
+    (puts_then c.put_header-begun.ensures
     (stands-end _ _ _ _ c.loop-i.i (omega arith) c.loop-i.invariant.1 c.put_changes-2.ensures))
