@@ -1,7 +1,6 @@
 -- `add_ticks` is safe and ends: the ticks that are left grow fewer. Assumes nothing.
 use mathlib.Core.Path.{◌≡◌}
 use lib.ListN.{length}
-use borrow.Author.Rules.{rules}
 use Rattle.dump.proofs.add_ticks.Given as goal
 
 abbrev pub invariant-loop-left : goal.invariant-loop-left

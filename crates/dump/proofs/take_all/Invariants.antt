@@ -1,7 +1,6 @@
 -- `take_all` is safe and ends: the turns that are left grow fewer. Assumes nothing.
 use mathlib.Core.Path.{◌≡◌}
 use lib.ListN.{length}
-use borrow.Author.Rules.{rules}
 use Rattle.dump.proofs.take_all.Given as goal
 
 abbrev pub invariant-loop-turns : goal.invariant-loop-turns

@@ -1,7 +1,6 @@
 -- `list_all` is safe and ends: the bytes still to send grow fewer. Assumes nothing.
 use Prim.Native.Nat.{◌≤◌, ◌-◌}
 use lib.ListN.{length}
-use borrow.Author.Rules.{rules}
 use Rattle.lister.proofs.list_all.Given as goal
 
 abbrev pub invariant-loop-at : goal.invariant-loop-at

@@ -1,5 +1,4 @@
 -- `main` is safe and ends: the reads still to make grow fewer. Assumes nothing.
-use borrow.Author.Rules.{rules}
 use Rattle.lister.proofs.main.Given as goal
 
 abbrev pub invariant-loop-turns : goal.invariant-loop-turns

@@ -1,5 +1,4 @@
 -- `take_all` is safe and ends: the turns that are left grow fewer. Assumes nothing.
-use borrow.Author.Rules.{rules}
 use Rattle.replay.proofs.take_all.Given as goal
 
 abbrev pub invariant-loop-turns : goal.invariant-loop-turns

@@ -1,7 +1,6 @@
 -- `take_bytes` is safe and ends: the bytes still to take grow fewer. Assumes nothing.
 use Prim.Native.Nat.{◌≤◌, ◌-◌}
 use lib.ListN.{length}
-use borrow.Author.Rules.{rules}
 use Rattle.replay.proofs.take_bytes.Given as goal
 
 abbrev pub invariant-loop-i : goal.invariant-loop-i

@@ -1,5 +1,4 @@
 -- `ask` meets its contract: each way through the tests is the definition's. Assumes nothing.
-use borrow.Author.Rules.{rules}
 use Rattle.format.proofs.Laws.{steps}
 use Rattle.capture.specs.Arguments.{asked_of}
 use Rattle.capture.proofs.arguments.ask.Goals as goal

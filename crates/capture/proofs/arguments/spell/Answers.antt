@@ -1,12 +1,8 @@
 -- `spell` meets its contract. The invariant of its loop: the bytes that are left lead to the number that is asked.
 -- Assumes nothing.
-use Prim.Native.Nat.{◌-◌, ◌≤◌}
-use mathlib.Core.Path.{◌≡◌, refl, sym, ◌∙◌}
+use mathlib.Core.Path.{refl, sym, ◌∙◌}
 use native.Mathlib.Omega.{arith}
-use lib.ListN.{length, drop}
-use Rattle.text.specs.Numbers.{number_from}
 use Rattle.capture.proofs.Laws.{spelled_none, spelled_some, spelled_next, spelled_end}
-use borrow.Author.Rules.{rules}
 use Rattle.capture.proofs.arguments.spell.Goals as goal
 
 pub returns-then-word-eq0 : goal.returns-then-word-eq0

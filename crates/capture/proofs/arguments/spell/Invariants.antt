@@ -1,12 +1,9 @@
 -- `spell` meets its contract. The invariant of its loop: the bytes that are left lead to the number that is asked.
 -- Assumes nothing.
 use Prim.Native.Nat.{◌-◌, ◌≤◌}
-use mathlib.Core.Path.{◌≡◌, refl, sym, ◌∙◌}
-use native.Mathlib.Omega.{arith}
+use mathlib.Core.Path.{◌≡◌}
 use lib.ListN.{length, drop}
 use Rattle.text.specs.Numbers.{number_from}
-use Rattle.capture.proofs.Laws.{spelled_none, spelled_some, spelled_next, spelled_end}
-use borrow.Author.Rules.{rules}
 use Rattle.capture.proofs.arguments.spell.Given as goal
 
 abbrev pub invariant-loop-i : goal.invariant-loop-i

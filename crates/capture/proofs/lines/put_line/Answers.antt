@@ -4,17 +4,12 @@ use mathlib.Core.List.{append_assoc}
 use native.Mathlib.Omega.{arith}
 use Rattle.text.proofs.Laws.Puts.{puts_one, puts_then, puts_as}
 use Rattle.capture.specs.Lines.{character_line}
-use borrow.Author.Rules.{rules}
 use Rattle.capture.proofs.lines.put_line.Goals as goal
 
 pub returns : goal.returns
 unfolding character_line
 returns c =
-    let marks = c in
-    let value = marks in
-    let blank = value in
-    let first = blank in
     puts_as (simp append_assoc)
-    (puts_then (puts_one _ _ _ _ _ refl first.put.ensures)
-    (puts_then (puts_one _ _ _ _ _ (omega arith) blank.put-2.ensures)
-    (puts_then value.put_byte-next.ensures.text marks.put_byte.ensures.text)))
+    (puts_then (puts_one _ _ _ _ _ refl c.put.ensures)
+    (puts_then (puts_one _ _ _ _ _ (omega arith) c.put-2.ensures)
+    (puts_then c.put_byte-next.ensures.text c.put_byte.ensures.text)))

@@ -1,13 +1,11 @@
 -- `put_lines` meets its contract. The invariant of its loop: the lines of what is left of the log lead to the end that is
 -- asked. Assumes nothing.
-use Prim.Native.Nat.{◌+◌, ◌*◌, ◌-◌, ◌≤◌}
-use mathlib.Core.Path.{◌≡◌, refl, ◌∙◌}
+use Prim.Native.Nat.{◌+◌}
+use mathlib.Core.Path.{refl, ◌∙◌}
 use native.Mathlib.Omega.{arith}
-use lib.ListN.{length, drop, get_or}
-use Rattle.text.proofs.Laws.Puts.{Left, left_all, left_as, left_then, left_none, puts_length}
-use Rattle.capture.specs.Lines.{character_lines}
+use lib.ListN.{get_or}
+use Rattle.text.proofs.Laws.Puts.{left_all, left_as, left_then, left_none, puts_length}
 use Rattle.capture.proofs.Laws.{lines_next, lines_end, line_within}
-use borrow.Author.Rules.{rules}
 use Rattle.capture.proofs.lines.put_lines.Goals as goal
 
 pub loop-i-init : goal.loop-i-init
@@ -15,10 +13,9 @@ loop-i-init c = (omega arith, omega arith, refl, left_all _ _ _)
 
 pub loop-i-preserved : goal.loop-i-preserved
 loop-i-preserved c =
-    let put = c in
-    let at = put in
+    let at = c in
     let a = at.args in
-    let p = put.put_line-next.ensures in
+    let p = c.put_line-next.ensures in
     let next = lines_next a.letter a.log.now at.loop-i.i (omega arith) in
     let w = line_within a.letter (get_or a.log.now at.loop-i.i 0) (get_or a.log.now (at.loop-i.i + 1) 0) in (
       omega arith,

@@ -1,13 +1,10 @@
 -- `put_lines` meets its contract. The invariant of its loop: the lines of what is left of the log lead to the end that is
 -- asked. Assumes nothing.
 use Prim.Native.Nat.{◌+◌, ◌*◌, ◌-◌, ◌≤◌}
-use mathlib.Core.Path.{◌≡◌, refl, ◌∙◌}
-use native.Mathlib.Omega.{arith}
-use lib.ListN.{length, drop, get_or}
-use Rattle.text.proofs.Laws.Puts.{Left, left_all, left_as, left_then, left_none, puts_length}
+use mathlib.Core.Path.{◌≡◌}
+use lib.ListN.{length, drop}
+use Rattle.text.proofs.Laws.Puts.{Left}
 use Rattle.capture.specs.Lines.{character_lines}
-use Rattle.capture.proofs.Laws.{lines_next, lines_end, line_within}
-use borrow.Author.Rules.{rules}
 use Rattle.capture.proofs.lines.put_lines.Given as goal
 
 abbrev pub invariant-loop-i : goal.invariant-loop-i

@@ -2,11 +2,8 @@
 use Rattle.text.specs.Bytes.{bytes_of}
 use Rattle.text.proofs.Laws.Puts.{puts_then}
 use Rattle.capture.specs.Said.{refused_text}
-use borrow.Author.Rules.{rules}
 use Rattle.capture.proofs.said.put_refused.Goals as goal
 
 pub returns : goal.returns
 unfolding refused_text bytes_of
-returns c =
-    let number = c in
-    puts_then number.put_bytes-begun.ensures number.put_byte.ensures.text
+returns c = puts_then c.put_bytes-begun.ensures c.put_byte.ensures.text

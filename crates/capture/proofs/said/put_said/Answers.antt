@@ -3,7 +3,6 @@ use native.Mathlib.Omega.{arith}
 use Rattle.text.proofs.Laws.Puts.{puts_then, puts_as, puts_front}
 use Rattle.vcd_capture.proofs.Laws.Capture.{part-a, part-b}
 use Rattle.capture.proofs.Laws.{front_within, part_fits, part_ends, refused_ends, said-lines, said-refused}
-use borrow.Author.Rules.{rules}
 use Rattle.capture.proofs.said.put_said.Goals as goal
 
 pub returns-then-captured-ne0 : goal.returns-then-captured-ne0

@@ -1,5 +1,5 @@
 -- `go` is safe and ends: the turns still allowed grow fewer. Assumes nothing.
-use Rattle.std.proofs.Common.{◌-◌, ◌≤◌, rules}
+use Rattle.std.proofs.Common.{◌-◌, ◌≤◌}
 use Rattle.manual.proofs.bench.go.Given as goal
 
 abbrev pub invariant-loop-turns : goal.invariant-loop-turns

@@ -1,5 +1,5 @@
 -- `run` is safe and ends: the bytes of the script still to read grow fewer. Assumes nothing.
-use Rattle.std.proofs.Common.{◌-◌, ◌≤◌, length, rules}
+use Rattle.std.proofs.Common.{◌-◌, ◌≤◌, length}
 use Rattle.manual.proofs.script.run.Given as goal
 
 abbrev pub invariant-loop-i : goal.invariant-loop-i
