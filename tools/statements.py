@@ -2,6 +2,8 @@
 """The statements of the lemmas and theorems in proofs/ of two checkouts, side by side where they differ.
 
 usage: tools/statements.py OLD NEW    OLD is LANDED after port.py and tools/rename.py; answers and invariants of functions are left out
+
+It compares what stands at the left margin, and neither the declarations inside a `module` nor the bodies of definitions.
 """
 
 import os
