@@ -1,7 +1,7 @@
 #!/usr/bin/env python3
 """Turns each proofs/F/Proof.antt that only closes `tie.spec` into Invariants.antt and Answers.antt, once.
 
-usage: tools/answers.py NAMES CRATE..    NAMES/CRATE/names.json is what `rattle check --generated NAMES/CRATE --old-names` wrote
+usage: tools/answers.py LANDED NAMES CRATE..    LANDED is a checkout of the landed commit; NAMES/CRATE/names.json is what `rattle check --generated NAMES/CRATE --old-names` wrote
 
 A goal goes by its new name, a step of the code by its own, with no `before` on the way to it; `search rules` is what the check tries
 by itself, so such an answer goes. What it leaves to do by hand it prints.
