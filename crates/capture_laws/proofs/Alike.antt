@@ -68,13 +68,13 @@ module _ (number : Number) (log : Log) (h : Captures number log) where
 
   -- ---- the numbers ----
 
-  module _ (q : Asked) (text a b : List ℕ) (roomA roomB : ℕ) where
+  module _ (q : Asked) (text a b : List ℕ) (room_a room_b : ℕ) where
     abbrev Alike : Type 0
-    Alike = number q text a b roomA roomB ≡ number_of q text a b roomA roomB
+    Alike = number q text a b room_a room_b ≡ number_of q text a b room_a room_b
 
     module _ (m : Modelled q) (ws : List Wire) (ls : List Line) (ca cb : ℕ) (says : Says text ws ls) (na : Named ws a ca) (nb : Named ws b cb) where
       fitting-alike : RisesFrom 0 (times_of ls) → Alike
-      fitting-alike r = go (leb (length (log false q text a b)) roomA) refl (leb (length (log true q text a b)) roomB) refl
+      fitting-alike r = go (leb (length (log false q text a b)) room_a) refl (leb (length (log true q text a b)) room_b) refl
         where
           first : log false q text a b ≡ log_on false q text a b
           first = log-alike q text a b m ws ls ca cb says na nb r false
@@ -82,24 +82,24 @@ module _ (number : Number) (log : Log) (h : Captures number log) where
           second : log true q text a b ≡ log_on true q text a b
           second = log-alike q text a b m ws ls ca cb says na nb r true
 
-          short : ((length (log false q text a b) ≤ roomA) × (length (log true q text a b) ≤ roomB) → ⊥) → Alike
+          short : ((length (log false q text a b) ≤ room_a) × (length (log true q text a b) ≤ room_b) → ⊥) → Alike
           short n =
-              h.eight q text a b roomA roomB m ws ls ca cb says na nb r n
-              ∙ sym (captures.eight q text a b roomA roomB m ws ls ca cb says na nb r
-              (subst (λ (l : List ℕ). (length l ≤ roomA) × (length (log_on true q text a b) ≤ roomB) → ⊥) first
-              (subst (λ (l : List ℕ). (length (log false q text a b) ≤ roomA) × (length l ≤ roomB) → ⊥) second n)))
+              h.eight q text a b room_a room_b m ws ls ca cb says na nb r n
+              ∙ sym (captures.eight q text a b room_a room_b m ws ls ca cb says na nb r
+              (subst (λ (l : List ℕ). (length l ≤ room_a) × (length (log_on true q text a b) ≤ room_b) → ⊥) first
+              (subst (λ (l : List ℕ). (length (log false q text a b) ≤ room_a) × (length l ≤ room_b) → ⊥) second n)))
 
-          go : (s : Bool) → leb (length (log false q text a b)) roomA ≡ s → (t : Bool) → leb (length (log true q text a b)) roomB ≡ t → Alike
+          go : (s : Bool) → leb (length (log false q text a b)) room_a ≡ s → (t : Bool) → leb (length (log true q text a b)) room_b ≡ t → Alike
           go true e true d =
               let x = leb-true _ _ e in
               let y = leb-true _ _ d in
-              h.none q text a b roomA roomB m ws ls ca cb says na nb r x y
-              ∙ sym (captures.none q text a b roomA roomB m ws ls ca cb says na nb r
-              (subst (λ (l : List ℕ). length l ≤ roomA) first x) (subst (λ (l : List ℕ). length l ≤ roomB) second y))
-          go true e false d = short (λ (p : (length (log false q text a b) ≤ roomA) × (length (log true q text a b) ≤ roomB)).
-              omega (arith, p.1, leb-false (length (log true q text a b)) roomB d))
-          go false e t d = short (λ (p : (length (log false q text a b) ≤ roomA) × (length (log true q text a b) ≤ roomB)).
-              omega (arith, p.0, leb-false (length (log false q text a b)) roomA e))
+              h.none q text a b room_a room_b m ws ls ca cb says na nb r x y
+              ∙ sym (captures.none q text a b room_a room_b m ws ls ca cb says na nb r
+              (subst (λ (l : List ℕ). length l ≤ room_a) first x) (subst (λ (l : List ℕ). length l ≤ room_b) second y))
+          go true e false d = short (λ (p : (length (log false q text a b) ≤ room_a) × (length (log true q text a b) ≤ room_b)).
+              omega (arith, p.1, leb-false (length (log true q text a b)) room_b d))
+          go false e t d = short (λ (p : (length (log false q text a b) ≤ room_a) × (length (log true q text a b) ≤ room_b)).
+              omega (arith, p.0, leb-false (length (log false q text a b)) room_a e))
 
       inside-alike : Alike
       inside-alike = go (times_from no_times ls).late refl
@@ -108,19 +108,19 @@ module _ (number : Number) (log : Log) (h : Captures number log) where
           go false e = fitting-alike (in_time_rises ls e)
           go true e =
               let late : RisesFrom 0 (times_of ls) → ⊥ = λ (r : RisesFrom 0 (times_of ls)). true≢false (sym e ∙ rises_in_time ls r) in
-              h.eleven q text a b roomA roomB m ws ls ca cb says na nb late
-              ∙ sym (captures.eleven q text a b roomA roomB m ws ls ca cb says na nb late)
+              h.eleven q text a b room_a room_b m ws ls ca cb says na nb late
+              ∙ sym (captures.eleven q text a b room_a room_b m ws ls ca cb says na nb late)
 
     modelled-alike : Modelled q → Alike
     modelled-alike m =
         told text a b (inside-alike m)
-        (λ none. h.ten q text a b roomA roomB m none ∙ sym (captures.ten q text a b roomA roomB m none))
+        (λ none. h.ten q text a b room_a room_b m none ∙ sym (captures.ten q text a b room_a room_b m none))
 
     pub number-alike : Alike
     number-alike = go (mr1_not_modelled q.mr1) refl (leb q.code 12) refl
       where
         five : (Modelled q → ⊥) → Alike
-        five n = h.five q text a b roomA roomB n ∙ sym (captures.five q text a b roomA roomB n)
+        five n = h.five q text a b room_a room_b n ∙ sym (captures.five q text a b room_a room_b n)
 
         go : (s : Bool) → mr1_not_modelled q.mr1 ≡ s → (t : Bool) → leb q.code 12 ≡ t → Alike
         go false e true d = modelled-alike (e, leb-true q.code 12 d)

@@ -150,17 +150,17 @@ module _ (q : Asked) (text a b : List ℕ) where
       go false e true d = refl
       go false e false d = absurd (h (e, ltb-false 12 q.code d))
 
-  is-five : (roomA roomB : ℕ) → (Modelled q → ⊥) → number_of q text a b roomA roomB ≡ 5
+  is-five : (room_a room_b : ℕ) → (Modelled q → ⊥) → number_of q text a b room_a room_b ≡ 5
   unfolding capture_refusal pick
-  is-five roomA roomB h = rw (not-modelled h)
+  is-five room_a room_b h = rw (not-modelled h)
 
-  module _ (m : Modelled q) (roomA roomB : ℕ) where
-    is-refused : (n : ℕ) → (scan_of text a b).number ≡ n → (n ≡ 0 → ⊥) → number_of q text a b roomA roomB ≡ n
+  module _ (m : Modelled q) (room_a room_b : ℕ) where
+    is-refused : (n : ℕ) → (scan_of text a b).number ≡ n → (n ≡ 0 → ⊥) → number_of q text a b room_a room_b ≡ n
     unfolding capture_refusal pick
     is-refused n e z = rw (modelled-is m, e, ne_eqb n 0 z)
 
-    is-fitted : (t : Bool) → (scan_of text a b).number ≡ 0 → (ltb roomA (length (log_a q text a b)) || ltb roomB (length (log_b q text a b))) ≡ t
-        → number_of q text a b roomA roomB ≡ pick t 8 0
+    is-fitted : (t : Bool) → (scan_of text a b).number ≡ 0 → (ltb room_a (length (log_a q text a b)) || ltb room_b (length (log_b q text a b))) ≡ t
+        → number_of q text a b room_a room_b ≡ pick t 8 0
     unfolding capture_refusal pick
     is-fitted t e s = rw (modelled-is m, e, s)
 
@@ -185,16 +185,16 @@ module _ (text a b : List ℕ) (ws : List Wire) (ls : List Line) (ca cb : ℕ) (
   lines_left : drop (length (header_of ws)) text ≡ lines_text ls
   lines_left = rw says.written (header-left ws (lines_text ls))
 
-  abbrev heardOn : Asked → ℕ → List Character
-  heardOn q code =
+  abbrev heard_on : Asked → ℕ → List Character
+  heard_on q code =
       heard_from (period_for q) (setting_of q.mr1) code (end_of (times_from no_times ls)) started just_enabled (lines_text ls)
 
   log_is : (q : Asked) → RisesFrom 0 (times_of ls)
-      → (log_a q text a b ≡ log_bytes (heardOn q ca)) × (log_b q text a b ≡ log_bytes (heardOn q cb))
+      → (log_a q text a b ≡ log_bytes (heard_on q ca)) × (log_b q text a b ≡ log_bytes (heard_on q cb))
   log_is q r = (rw (in_time r, lines_left), rw (in_time r, lines_left))
 
   is-logged : (q : Asked) (code : ℕ) → Modelled q → RisesFrom 0 (times_of ls)
-      → HeardBy q (sampled_on code ls) (times_of ls) (heardOn q code)
+      → HeardBy q (sampled_on code ls) (times_of ls) (heard_on q code)
   is-logged q code (m, c) r =
       let (least, most) = period_between q.acr7 q.code (omega arith) in
       let period : period_for q ≡ suc (period_for q - 1) = omega arith in
@@ -211,13 +211,13 @@ is_heard : (q : Asked) (text a b : List ℕ) → Modelled q → (ws : List Wire)
 unfolding pick
 is_heard q text a b m ws ls ca cb says na nb r true =
     record {
-      characters = heardOn text a b ws ls ca cb says na nb q cb;
+      characters = heard_on text a b ws ls ca cb says na nb q cb;
       heard = is-logged text a b ws ls ca cb says na nb q cb m r;
       bytes = (log_is text a b ws ls ca cb says na nb q r).1;
     }
 is_heard q text a b m ws ls ca cb says na nb r false =
     record {
-      characters = heardOn text a b ws ls ca cb says na nb q ca;
+      characters = heard_on text a b ws ls ca cb says na nb q ca;
       heard = is-logged text a b ws ls ca cb says na nb q ca m r;
       bytes = (log_is text a b ws ls ca cb says na nb q r).0;
     }
@@ -235,14 +235,14 @@ unfolding pick
 captures =
     record {
       five = is-five;
-      ten = λ q text a b roomA roomB m none.
-          is-refused q text a b m roomA roomB 10 (ap (λ (s : Scanned). s.number) (outside text a b none)) (λ (z : ◌≡◌ {A = ℕ} 10 0). omega arith);
-      eleven = λ q text a b roomA roomB m ws ls ca cb says na nb late.
-          is-refused q text a b m roomA roomB 11 (ap (λ (s : Scanned). s.number) (too-late text a b ws ls ca cb says na nb late)) (λ (z : ◌≡◌ {A = ℕ} 11 0). omega arith);
-      eight = λ q text a b roomA roomB m ws ls ca cb says na nb r short.
-          is-fitted q text a b m roomA roomB true (ap (λ (s : Scanned). s.number) (in_time text a b ws ls ca cb says na nb r)) (not_fitting _ _ _ _ short);
-      none = λ q text a b roomA roomB m ws ls ca cb says na nb r fa fb.
-          is-fitted q text a b m roomA roomB false (ap (λ (s : Scanned). s.number) (in_time text a b ws ls ca cb says na nb r))
+      ten = λ q text a b room_a room_b m none.
+          is-refused q text a b m room_a room_b 10 (ap (λ (s : Scanned). s.number) (outside text a b none)) (λ (z : ◌≡◌ {A = ℕ} 10 0). omega arith);
+      eleven = λ q text a b room_a room_b m ws ls ca cb says na nb late.
+          is-refused q text a b m room_a room_b 11 (ap (λ (s : Scanned). s.number) (too-late text a b ws ls ca cb says na nb late)) (λ (z : ◌≡◌ {A = ℕ} 11 0). omega arith);
+      eight = λ q text a b room_a room_b m ws ls ca cb says na nb r short.
+          is-fitted q text a b m room_a room_b true (ap (λ (s : Scanned). s.number) (in_time text a b ws ls ca cb says na nb r)) (not_fitting _ _ _ _ short);
+      none = λ q text a b room_a room_b m ws ls ca cb says na nb r fa fb.
+          is-fitted q text a b m room_a room_b false (ap (λ (s : Scanned). s.number) (in_time text a b ws ls ca cb says na nb r))
           (neither _ _ (le-ltb _ _ fa) (le-ltb _ _ fb));
       hears = is_heard;
     }

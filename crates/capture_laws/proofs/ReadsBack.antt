@@ -191,8 +191,8 @@ all_waves d es q k l log h =
 pub reads_back : ReadsBack number_of log_on dump_lines
 reads_back =
     record {
-      read = λ d es few q m a b j k na nb roomA roomB fa fb.
-          captures.none q (events_text d es) a b roomA roomB m chip_wires (dump_lines d es) (33 + j) (33 + k) (dump_says d es few) na nb (shows.tells.rise d es) fa fb;
+      read = λ d es few q m a b j k na nb room_a room_b fa fb.
+          captures.none q (events_text d es) a b room_a room_b m chip_wires (dump_lines d es) (33 + j) (33 + k) (dump_says d es few) na nb (shows.tells.rise d es) fa fb;
       waves = λ d es few q m a b j k lj lk na nb second.
           all_waves d es q (pick second k j) (either_below j k second lj lk) (log_on second q (events_text d es) a b)
           (subst (λ (c : ℕ). Logged q (sampled_on c (dump_lines d es)) (times_of (dump_lines d es)) (log_on second q (events_text d es) a b)) (either_wire j k second)

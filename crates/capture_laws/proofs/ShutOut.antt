@@ -38,7 +38,7 @@ read_twice = refl
 -- ---- the numbers ----
 
 -- a constant, so also one that refuses all or takes all
-no_constant : (n : ℕ) (log : Log) → Captures (λ q text a b roomA roomB. n) log → ⊥
+no_constant : (n : ℕ) (log : Log) → Captures (λ q text a b room_a room_b. n) log → ⊥
 unfolding capturing
 no_constant n log h =
     let taken : n ≡ 0 = number-alike _ log h fast (text_of both) wire_a wire_b 2 2 in
@@ -100,7 +100,7 @@ unfolding chip_wires wires_from
 txdb = record { place = 1; within = omega arith; wire = refl }
 
 -- "Order 6's dumps read back": one that takes them for another's text
-no_dumps_refused : (n : ℕ) (log : Log) → (n ≡ 0 → ⊥) → ReadsBack (λ q text a b roomA roomB. n) log dump_lines → ⊥
+no_dumps_refused : (n : ℕ) (log : Log) → (n ≡ 0 → ⊥) → ReadsBack (λ q text a b room_a room_b. n) log dump_lines → ⊥
 no_dumps_refused n log z h =
     z (h.read fresh_device [] (omega arith) fast modelled (bytes_of "TxDA") (bytes_of "TxDB") 0 1 txda txdb _ _ (le_refl _) (le_refl _))
 

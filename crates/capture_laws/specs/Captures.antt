@@ -63,27 +63,27 @@ Log = Bool → Asked → List ℕ → List ℕ → List ℕ → List ℕ
 
 pub record Captures (number : Number) (log : Log) : Type 0 where
   -- "Refusals, in this order: 5 (a code above 12 too)"
-  pub five : (q : Asked) (text a b : List ℕ) (roomA roomB : ℕ) → (Modelled q → ⊥) → number q text a b roomA roomB ≡ 5
+  pub five : (q : Asked) (text a b : List ℕ) (room_a room_b : ℕ) → (Modelled q → ⊥) → number q text a b room_a room_b ≡ 5
   -- "10 text outside the subset or a named wire missing"
-  pub ten : (q : Asked) (text a b : List ℕ) (roomA roomB : ℕ) → Modelled q
+  pub ten : (q : Asked) (text a b : List ℕ) (room_a room_b : ℕ) → Modelled q
       → ((ws : List Wire) (ls : List Line) (ca cb : ℕ) → Says text ws ls → Named ws a ca → Named ws b cb → ⊥)
-      → number q text a b roomA roomB ≡ 10
+      → number q text a b room_a room_b ≡ 10
   -- "11 a time not later than the one before"
-  pub eleven : (q : Asked) (text a b : List ℕ) (roomA roomB : ℕ) → Modelled q
+  pub eleven : (q : Asked) (text a b : List ℕ) (room_a room_b : ℕ) → Modelled q
       → (ws : List Wire) (ls : List Line) (ca cb : ℕ) → Says text ws ls → Named ws a ca → Named ws b cb
-      → (RisesFrom 0 (times_of ls) → ⊥) → number q text a b roomA roomB ≡ 11
+      → (RisesFrom 0 (times_of ls) → ⊥) → number q text a b room_a room_b ≡ 11
   -- "8 either log too short"
-  pub eight : (q : Asked) (text a b : List ℕ) (roomA roomB : ℕ) → Modelled q
+  pub eight : (q : Asked) (text a b : List ℕ) (room_a room_b : ℕ) → Modelled q
       → (ws : List Wire) (ls : List Line) (ca cb : ℕ) → Says text ws ls → Named ws a ca → Named ws b cb
       → RisesFrom 0 (times_of ls)
-      → ((length (log false q text a b) ≤ roomA) × (length (log true q text a b) ≤ roomB) → ⊥)
-      → number q text a b roomA roomB ≡ 8
+      → ((length (log false q text a b) ≤ room_a) × (length (log true q text a b) ≤ room_b) → ⊥)
+      → number q text a b room_a room_b ≡ 8
   -- and 0 for every other
-  pub none : (q : Asked) (text a b : List ℕ) (roomA roomB : ℕ) → Modelled q
+  pub none : (q : Asked) (text a b : List ℕ) (room_a room_b : ℕ) → Modelled q
       → (ws : List Wire) (ls : List Line) (ca cb : ℕ) → Says text ws ls → Named ws a ca → Named ws b cb
       → RisesFrom 0 (times_of ls)
-      → length (log false q text a b) ≤ roomA → length (log true q text a b) ≤ roomB
-      → number q text a b roomA roomB ≡ 0
+      → length (log false q text a b) ≤ room_a → length (log true q text a b) ≤ room_b
+      → number q text a b room_a room_b ≡ 0
   -- "There are two lent logs, one per channel": each holds the characters of its own wire
   pub hears : (q : Asked) (text a b : List ℕ) → Modelled q
       → (ws : List Wire) (ls : List Line) (ca cb : ℕ) → Says text ws ls → Named ws a ca → Named ws b cb

@@ -34,9 +34,9 @@ shown_of d (e ∷ es) = pick (eqb (step_of d e).number 0) (e ∷ shown_of (step_
 -- what document 01's receiver puts together from the chip's own line. `lines` are the dump's.
 pub record ReadsBack (number : Number) (log : Log) (lines : Device → List Event → List Line) : Type 0 where
   pub read : (d : Device) (es : List Event) → length es ≤ 1000000 → (q : Asked) → Modelled q
-      → (a b : List ℕ) (j k : ℕ) → Named chip_wires a (33 + j) → Named chip_wires b (33 + k) → (roomA roomB : ℕ)
-      → length (log false q (events_text d es) a b) ≤ roomA → length (log true q (events_text d es) a b) ≤ roomB
-      → number q (events_text d es) a b roomA roomB ≡ 0
+      → (a b : List ℕ) (j k : ℕ) → Named chip_wires a (33 + j) → Named chip_wires b (33 + k) → (room_a room_b : ℕ)
+      → length (log false q (events_text d es) a b) ≤ room_a → length (log true q (events_text d es) a b) ≤ room_b
+      → number q (events_text d es) a b room_a room_b ≡ 0
   pub waves : (d : Device) (es : List Event) → length es ≤ 1000000 → (q : Asked) → Modelled q
       → (a b : List ℕ) (j k : ℕ) → j < 11 → k < 11 → Named chip_wires a (33 + j) → Named chip_wires b (33 + k)
       → (second : Bool)

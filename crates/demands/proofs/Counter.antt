@@ -154,15 +154,15 @@ runs_law levels es fs m l = (count, output)
     h : is_timer (mode_of (front_after levels es).acr) ≡ true
     h = timer_mode (mode_of (front_after levels es).acr) ∙ rw (acr_told levels es) at m
 
-    isTimer-of : Front → Bool
-    isTimer-of f = is_timer (mode_of f.acr)
+    is_timer_of : Front → Bool
+    is_timer_of f = is_timer (mode_of f.acr)
 
     same : cleared (front_after levels (es ++ Read 15 ∷ fs)) ≡ cleared (front_after levels (es ++ fs))
     same =
         rw (over_append front_then (front_at levels) es (Read 15 ∷ fs), over_append front_then (front_at levels) es fs)
         (cleared_over _ _ fs l (cleared_stop (front_after levels es) h))
 
-    timer : isTimer-of (front_after levels (es ++ fs)) ≡ true
+    timer : is_timer_of (front_after levels (es ++ fs)) ≡ true
     timer = rw (over_append front_then (front_at levels) es fs, acr_over (front_after levels es) fs l) h
 
     opcr : eqb (over opcr_then 0 (es ++ fs) / 4 % 4) 1 ≡ true → eqb (over opcr_then 0 (es ++ Read 15 ∷ fs) / 4 % 4) 1 ≡ true
@@ -174,7 +174,7 @@ runs_law levels es fs m l = (count, output)
     output : eqb (over opcr_then 0 (es ++ fs) / 4 % 4) 1 ≡ true
         → has_bit (lines_after chip levels (es ++ Read 15 ∷ fs)).op 3 ≡ has_bit (lines_after chip levels (es ++ fs)).op 3
     output o =
-        output_shown_lem levels (es ++ Read 15 ∷ fs) (opcr o) (ap isTimer-of same ∙ timer)
+        output_shown_lem levels (es ++ Read 15 ∷ fs) (opcr o) (ap is_timer_of same ∙ timer)
         ∙ ap (λ (f : Front). f.timer.output) same ∙ sym (output_shown_lem levels (es ++ fs) o timer)
 
 -- ---- what leaves its bit, and its count ----

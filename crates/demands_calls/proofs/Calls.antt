@@ -27,12 +27,12 @@ use Rattle.records.specs.declared.records.Seen.{Seen}
 use Rattle.records.specs.Records.{event_of}
 use Rattle.poll.specs.Step.{single_of}
 use Rattle.poll.specs.Poll.{seen_in, polled_of, answers_after}
-use Rattle.poll.proofs.Told.{stateAfter, answersTo, one_by_one, written}
+use Rattle.poll.proofs.Told.{state_after, answers_to, one_by_one, written}
 use Rattle.demands.specs.Chip.{Channel, register_of, and_then, chip_of, shows}
 use Rattle.demands.specs.Delivery.{marks_shown, read_at, reads_buffer, read_from}
 use Rattle.demands.proofs.Laws.Run.{run_append}
 use Rattle.demands.proofs.Delivery.{demand_3}
-use Rattle.demands_calls.specs.Calls.{Call, Board, called, stands_for, fresh_byte, fresh_bytes, bytes_of, afterCalls, events_of, bytesRead, Calls}
+use Rattle.demands_calls.specs.Calls.{Call, Board, called, stands_for, fresh_byte, fresh_bytes, bytes_of, after_calls, events_of, bytes_read, Calls}
 use Rattle.demands_calls.specs.Calls.Call.{one, polls, runs}
 
 -- the board that is proved
@@ -41,8 +41,8 @@ board = record { step = step_of; poll = polled_of; written = answers_after; run 
 
 -- ---- the state after one call ----
 
-records_on : (d : Device) (es : List EventRecord) → stateAfter single_of d es ≡ after step_of d (map event_of es)
-unfolding stateAfter after single_of
+records_on : (d : Device) (es : List EventRecord) → state_after single_of d es ≡ after step_of d (map event_of es)
+unfolding state_after after single_of
 records_on d [] = refl
 records_on d (e ∷ es) = records_on (step_of d (event_of e)).state es
 
@@ -66,8 +66,8 @@ call_on d (one e) = refl
 call_on d (polls es xs) = one_by_one d es xs ∙ records_on d (take (polled_of d es xs).count es)
 call_on d (runs budget) = run_on d budget
 
-calls_on : (d : Device) (cs : List Call) → afterCalls board d cs ≡ after step_of d (events_of board d cs)
-unfolding afterCalls events_of after
+calls_on : (d : Device) (cs : List Call) → after_calls board d cs ≡ after step_of d (events_of board d cs)
+unfolding after_calls events_of after
 calls_on d [] = refl
 calls_on d (c ∷ cs) =
     calls_on (called board d c) cs
@@ -140,8 +140,8 @@ read_from_lem levels ch before (e ∷ es) d at =
 -- ---- the bytes of calls ----
 
 records_read : (ch : Channel) (d : Device) (es : List EventRecord)
-    → fresh_bytes ch es (map seen_in (answersTo single_of d es)) ≡ bytes_from ch d (map event_of es)
-unfolding answersTo single_of bytes_from
+    → fresh_bytes ch es (map seen_in (answers_to single_of d es)) ≡ bytes_from ch d (map event_of es)
+unfolding answers_to single_of bytes_from
 records_read ch d [] = refl
 records_read ch d (e ∷ es) =
     ap (λ (xs : List ℕ). fresh_byte ch (event_of e) (step_of d (event_of e)).fresh (step_of d (event_of e)).byte ++ xs)
@@ -160,12 +160,12 @@ call_reads ch d (polls es xs) =
     ap (fresh_bytes ch (take k es)) (written d es xs) ∙ records_read ch d (take k es)
 call_reads ch d (runs budget) = sym (ticks_read ch (run_of d budget).ticks d)
 
-calls_read : (ch : Channel) (d : Device) (cs : List Call) → bytesRead board ch d cs ≡ bytes_from ch d (events_of board d cs)
-unfolding bytesRead events_of bytes_from
+calls_read : (ch : Channel) (d : Device) (cs : List Call) → bytes_read board ch d cs ≡ bytes_from ch d (events_of board d cs)
+unfolding bytes_read events_of bytes_from
 calls_read ch d [] = refl
 calls_read ch d (c ∷ cs) =
     let next = called board d c in
-    ap (λ (xs : List ℕ). xs ++ bytesRead board ch next cs) (call_reads ch d c)
+    ap (λ (xs : List ℕ). xs ++ bytes_read board ch next cs) (call_reads ch d c)
     ∙ ap (λ (xs : List ℕ). bytes_from ch d (stands_for board d c) ++ xs) (calls_read ch next cs)
     ∙ ap (λ (x : Device). bytes_from ch d (stands_for board d c) ++ bytes_from ch x (events_of board next cs)) (call_on d c)
     ∙ sym (bytes_append ch d (stands_for board d c) (events_of board next cs))

@@ -22,7 +22,7 @@ use Rattle.demands.specs.Chip.Channel.{A}
 use Rattle.demands.specs.Cases.{heard, listening, arrives}
 use Rattle.demands.specs.Delivery.{read_from}
 use Rattle.demands.proofs.Computing.{computing}
-use Rattle.demands_calls.specs.Calls.{Call, Board, afterCalls, events_of, bytesRead, Calls}
+use Rattle.demands_calls.specs.Calls.{Call, Board, after_calls, events_of, bytes_read, Calls}
 use Rattle.demands_calls.specs.Calls.Call.{one, polls, runs}
 
 abbrev record' : ℕ → ℕ → EventRecord
@@ -58,7 +58,7 @@ abbrev counts_less : Board
 counts_less = with_poll (λ d es xs. let p : Polled = polled_of d es xs in record { number = p.number; count = p.count - 1; state = p.state })
 
 no_counts_less : Calls counts_less → ⊥
-unfolding computing event_of single_of poll_refusal poll_from after_poll polled_of afterCalls events_of
+unfolding computing event_of single_of poll_refusal poll_from after_poll polled_of after_calls events_of
 no_counts_less h = omega (arith, ap ticks_in (h.states 255 two_ticks))
 
 -- "the last state is returned": the state as given
@@ -66,7 +66,7 @@ abbrev keeps_state : Board
 keeps_state = with_poll (λ d es xs. let p : Polled = polled_of d es xs in record { number = p.number; count = p.count; state = d })
 
 no_keeps_state : Calls keeps_state → ⊥
-unfolding computing event_of single_of poll_refusal poll_from after_poll polled_of afterCalls events_of
+unfolding computing event_of single_of poll_refusal poll_from after_poll polled_of after_calls events_of
 no_keeps_state h = omega (arith, ap ticks_in (h.states 255 two_ticks))
 
 -- "with the answers, less the states, written to a second lent list": nothing is written
@@ -74,7 +74,7 @@ abbrev writes_nothing : Board
 writes_nothing = record { step = step_of; poll = polled_of; written = λ d es xs. xs; run = run_of }
 
 no_writes_nothing : Calls writes_nothing → ⊥
-unfolding computing heard event_of single_of poll_refusal poll_from after_poll polled_of read_from events_of bytesRead
+unfolding computing heard event_of single_of poll_refusal poll_from after_poll polled_of read_from events_of bytes_read
 no_writes_nothing h = omega (arith, ap (λ (xs : List ℕ). length xs) (h.reads 255 A read_one))
 
 -- "reports how many ticks it took": the budget, though IRQ came sooner
@@ -83,7 +83,7 @@ reports_budget =
     with_run (λ d n. let r : Ran = run_of d n in record { number = r.number; ticks = n; lines = r.lines; state = r.state })
 
 no_reports_budget : Calls reports_budget → ⊥
-unfolding computing spent_of run_refusal run_of afterCalls events_of
+unfolding computing spent_of run_refusal run_of after_calls events_of
 no_reports_budget h = omega (arith, ap ticks_in (h.states 255 timed))
 
 -- "state and lines equal the single ticks": the state as given
@@ -92,5 +92,5 @@ runs_nowhere =
     with_run (λ d n. let r : Ran = run_of d n in record { number = r.number; ticks = r.ticks; lines = r.lines; state = d })
 
 no_runs_nowhere : Calls runs_nowhere → ⊥
-unfolding computing spent_of run_refusal run_of afterCalls events_of
+unfolding computing spent_of run_refusal run_of after_calls events_of
 no_runs_nowhere h = omega (arith, ap ticks_in (h.states 255 timed))

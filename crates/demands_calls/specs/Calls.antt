@@ -63,25 +63,25 @@ module _ (b : Board) where
 
   -- ---- a list of calls ----
 
-  unfoldable pub afterCalls : Device → List Call → Device
-  afterCalls d [] = d
-  afterCalls d (c ∷ cs) = afterCalls (called b d c) cs
+  unfoldable pub after_calls : Device → List Call → Device
+  after_calls d [] = d
+  after_calls d (c ∷ cs) = after_calls (called b d c) cs
 
   unfoldable pub events_of : Device → List Call → List Event
   events_of d [] = []
   events_of d (c ∷ cs) = stands_for b d c ++ events_of (called b d c) cs
 
-  unfoldable pub bytesRead : Channel → Device → List Call → List ℕ
-  bytesRead ch d [] = []
-  bytesRead ch d (c ∷ cs) = bytes_of ch d c ++ bytesRead ch (called b d c) cs
+  unfoldable pub bytes_read : Channel → Device → List Call → List ℕ
+  bytes_read ch d [] = []
+  bytes_read ch d (c ∷ cs) = bytes_of ch d c ++ bytes_read ch (called b d c) cs
 
 pub record Calls (b : Board) : Type 0 where
   -- "equal to the same events one by one"; "state and lines equal the single ticks"
   pub states : (levels : ℕ) (cs : List Call)
-      → afterCalls b (reset_at levels) cs ≡ after b.step (reset_at levels) (events_of b (reset_at levels) cs)
+      → after_calls b (reset_at levels) cs ≡ after b.step (reset_at levels) (events_of b (reset_at levels) cs)
   -- what was read by the calls is what demand 3 counts as read
   pub reads : (levels : ℕ) (ch : Channel) (cs : List Call)
-      → bytesRead b ch (reset_at levels) cs
+      → bytes_read b ch (reset_at levels) cs
       ≡ map (λ (x : Character). x.byte) (read_from (chip_of b.step) levels ch [] (events_of b (reset_at levels) cs))
   -- "Demand 3 reads the accepted events in both"
   pub delivers : (levels : ℕ) (ch : Channel) (cs : List Call)

@@ -34,7 +34,7 @@ use Rattle.chip_laws.proofs.Table.{table}
 use Rattle.demands.specs.Chip.{over, and_then, shows, status_bit, lines_after, each_of}
 use Rattle.demands.specs.Chip.Channel.{A}
 use Rattle.demands.specs.Told.{programmed}
-use Rattle.demands.specs.Clocks as inDemands
+use Rattle.demands.specs.Clocks as in_demands
 use Rattle.demands.specs.Clocks.{pulsed_after}
 use Rattle.demands.specs.Demand1.{request_frame}
 use Rattle.demands.specs.Registers.{ivr_after, mode_after, opcr_then, reads_nothing}
@@ -73,7 +73,7 @@ edge = Pins 251 ∷ Pins 255 ∷ Tick ∷ []
 
 -- a write of channel A's mode register that is refused: at MR2 after another, at MR1 before
 abbrev refuses_mode : List Event → ℕ → Bool
-refuses_mode es byte = pick (inDemands.side_of A (run_at 255 es).front).moved (mr2_not_modelled byte) (mr1_not_modelled byte)
+refuses_mode es byte = pick (in_demands.side_of A (run_at 255 es).front).moved (mr2_not_modelled byte) (mr1_not_modelled byte)
 
 -- both sides of channel A on one code
 abbrev pub coded : ℕ → List Event

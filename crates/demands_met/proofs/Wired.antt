@@ -29,7 +29,7 @@ use Rattle.chip_step.specs.Chip.{step_of}
 use Rattle.chip_laws.specs.Sound.{after}
 use Rattle.demands.specs.Chip.{Channel, and_then, status_bit, each_of}
 use Rattle.demands.specs.Chip.Channel.{A, B}
-use Rattle.demands.specs.Clocks as inDemands
+use Rattle.demands.specs.Clocks as in_demands
 use Rattle.demands.specs.Clocks.{front_then, front_after, pulsed_after}
 use Rattle.demands.specs.Cases.{heard, listening, arrives}
 use Rattle.demands.specs.Delivery.{lines_at, lines_from, fate_of, ledger_from, held}
@@ -137,12 +137,12 @@ read_back k es h =
 -- the transmitter's pulses in some events, and TxD after each, from a front on
 unfoldable pulses_over : Channel → Front → List Event → ℕ
 pulses_over ch f [] = 0
-pulses_over ch f (e ∷ es) = bit (inDemands.pulsed_by transmits ch f e) + pulses_over ch (front_then f e) es
+pulses_over ch f (e ∷ es) = bit (in_demands.pulsed_by transmits ch f e) + pulses_over ch (front_then f e) es
 
 unfoldable sent_over : Channel → Front → List Event → List Bool
 sent_over ch f [] = []
 sent_over ch f (e ∷ es) =
-    pick (inDemands.pulsed_by transmits ch f e) (txd_of (inDemands.side_of ch (front_then f e)) ∷ []) [] ++ sent_over ch (front_then f e) es
+    pick (in_demands.pulsed_by transmits ch f e) (txd_of (in_demands.side_of ch (front_then f e)) ∷ []) [] ++ sent_over ch (front_then f e) es
 
 pulses_over_lem : (pins : ℕ) (ch : Channel) (before es : List Event) → pulses_from pins ch before es ≡ pulses_over ch (front_after pins before) es
 unfolding pulses_from pulses_over

@@ -50,16 +50,16 @@ no_other_length = omega arith
 -- of a text whose first wire has a 21 and a 1, and the second a 10: each log has its own channel's, and past them what
 -- it held; "both logs stay" where one is too short
 abbrev Shown : List ℕ → List ℕ → List ℕ → List ℕ → Bool → CaptureAnswer → Type 0
-Shown beforeA beforeB afterA afterB channelB r =
-    CaptureShown fast (text_of twice) wire_a wire_b beforeA beforeB afterA afterB channelB r
+Shown before_a before_b after_a after_b channel_b r =
+    CaptureShown fast (text_of twice) wire_a wire_b before_a before_b after_a after_b channel_b r
 
-capture_filled : (afterA afterB : List ℕ) (r : CaptureAnswer)
-    → Shown (7 ∷ 7 ∷ 7 ∷ 7 ∷ 7 ∷ []) (9 ∷ 9 ∷ []) afterA afterB true r
-    → (afterA ≡ 21 ∷ 0 ∷ 1 ∷ 0 ∷ 7 ∷ []) × (afterB ≡ 10 ∷ 0 ∷ []) × (r ≡ record { number = 0; length = 2 })
+capture_filled : (after_a after_b : List ℕ) (r : CaptureAnswer)
+    → Shown (7 ∷ 7 ∷ 7 ∷ 7 ∷ 7 ∷ []) (9 ∷ 9 ∷ []) after_a after_b true r
+    → (after_a ≡ 21 ∷ 0 ∷ 1 ∷ 0 ∷ 7 ∷ []) × (after_b ≡ 10 ∷ 0 ∷ []) × (r ≡ record { number = 0; length = 2 })
 unfolding capturing capture_seen
-capture_filled afterA afterB r m = (m.first, m.second, m.answer)
+capture_filled after_a after_b r m = (m.first, m.second, m.answer)
 
-capture_stays : (afterA afterB : List ℕ) (r : CaptureAnswer) → Shown (7 ∷ 7 ∷ 7 ∷ []) (9 ∷ 9 ∷ []) afterA afterB true r
-    → (afterA ≡ 7 ∷ 7 ∷ 7 ∷ []) × (afterB ≡ 9 ∷ 9 ∷ []) × (r ≡ record { number = 8; length = 0 })
+capture_stays : (after_a after_b : List ℕ) (r : CaptureAnswer) → Shown (7 ∷ 7 ∷ 7 ∷ []) (9 ∷ 9 ∷ []) after_a after_b true r
+    → (after_a ≡ 7 ∷ 7 ∷ 7 ∷ []) × (after_b ≡ 9 ∷ 9 ∷ []) × (r ≡ record { number = 8; length = 0 })
 unfolding capturing capture_seen
-capture_stays afterA afterB r m = (m.first, m.second, m.answer)
+capture_stays after_a after_b r m = (m.first, m.second, m.answer)

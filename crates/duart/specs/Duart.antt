@@ -32,10 +32,10 @@ ran_seen r =
 
 -- order 7: the number, and the length of the part of the channel that is named
 unfoldable pub capture_seen : Captured → Bool → CaptureAnswer
-capture_seen c channelB = record { number = c.number; length = pick channelB c.length_b c.length_a }
+capture_seen c channel_b = record { number = c.number; length = pick channel_b c.length_b c.length_a }
 
 -- what is promised of the call: the answer, and both logs whole
-pub record CaptureShown (q : Asked) (text a b beforeA beforeB afterA afterB : List ℕ) (channelB : Bool) (r : CaptureAnswer) : Type 0 where
-  pub answer : r ≡ capture_seen (captured_of q text a b (length beforeA) (length beforeB)) channelB
-  pub first : afterA ≡ log_after (number_of q text a b (length beforeA) (length beforeB)) (log_a q text a b) beforeA
-  pub second : afterB ≡ log_after (number_of q text a b (length beforeA) (length beforeB)) (log_b q text a b) beforeB
+pub record CaptureShown (q : Asked) (text a b before_a before_b after_a after_b : List ℕ) (channel_b : Bool) (r : CaptureAnswer) : Type 0 where
+  pub answer : r ≡ capture_seen (captured_of q text a b (length before_a) (length before_b)) channel_b
+  pub first : after_a ≡ log_after (number_of q text a b (length before_a) (length before_b)) (log_a q text a b) before_a
+  pub second : after_b ≡ log_after (number_of q text a b (length before_a) (length before_b)) (log_b q text a b) before_b

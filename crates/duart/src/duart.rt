@@ -55,7 +55,7 @@ fn step_record(device: Device, event: EventRecord) -> Answer
     swift_step(device, event_of(event))
 }
 
-// A walk moves whole values only, so the parts of a poll's and of a run's answer are taken here.
+// The parts of a poll's and of a run's answer.
 fn state_polled(polled: Polled) -> Device
     ensures { result ≡ polled.state }
 {

@@ -35,38 +35,38 @@ either P false r s p q = q refl
 
 module _ (step : Device → EventRecord → Answer) where
   -- ---- events one by one
-  unfoldable pub stateAfter : Device → List EventRecord → Device
-  stateAfter d [] = d
-  stateAfter d (e ∷ es) = stateAfter (step d e).state es
+  unfoldable pub state_after : Device → List EventRecord → Device
+  state_after d [] = d
+  state_after d (e ∷ es) = state_after (step d e).state es
 
-  unfoldable pub answersTo : Device → List EventRecord → List Answer
-  answersTo d [] = []
-  answersTo d (e ∷ es) = step d e ∷ answersTo (step d e).state es
+  unfoldable pub answers_to : Device → List EventRecord → List Answer
+  answers_to d [] = []
+  answers_to d (e ∷ es) = step d e ∷ answers_to (step d e).state es
 
   -- the answer to event i, the events before it being done
-  abbrev pub answerAt : Device → List EventRecord → ℕ → Answer
-  answerAt d es i = step (stateAfter d (take i es)) (get_or es i no_event)
+  abbrev pub answer_at : Device → List EventRecord → ℕ → Answer
+  answer_at d es i = step (state_after d (take i es)) (get_or es i no_event)
 
   -- ---- a list of events
   from-one-by-one : (d : Device) (es : List EventRecord) (xs : List Seen)
-      → (poll_from step d es xs).state ≡ stateAfter d (take (poll_from step d es xs).count es)
-  unfolding poll_from stateAfter
+      → (poll_from step d es xs).state ≡ state_after d (take (poll_from step d es xs).count es)
+  unfolding poll_from state_after
   from-one-by-one d [] xs = refl
   from-one-by-one d (e ∷ es) [] = refl
   from-one-by-one d (e ∷ es) (x ∷ xs) =
-      either (λ (r : After). r.state ≡ stateAfter (step d e).state (take r.count es)) (is_refused (step d e)) _ _
+      either (λ (r : After). r.state ≡ state_after (step d e).state (take r.count es)) (is_refused (step d e)) _ _
       (λ _. refl) (λ _. from-one-by-one (step d e).state es xs)
 
   from-written : (d : Device) (es : List EventRecord) (xs : List Seen)
       → take (poll_from step d es xs).count (poll_from step d es xs).answers
-      ≡ map seen_in (answersTo d (take (poll_from step d es xs).count es))
-  unfolding poll_from answersTo
+      ≡ map seen_in (answers_to d (take (poll_from step d es xs).count es))
+  unfolding poll_from answers_to
   from-written d [] xs = refl
   from-written d (e ∷ es) [] = refl
   from-written d (e ∷ es) (x ∷ xs) =
       ap (λ (r : List Seen). seen_in (step d e) ∷ r)
       (either
-      (λ (r : After). take r.count r.answers ≡ map seen_in (answersTo (step d e).state (take r.count es)))
+      (λ (r : After). take r.count r.answers ≡ map seen_in (answers_to (step d e).state (take r.count es)))
       (is_refused (step d e)) _ _ (λ _. refl) (λ _. from-written (step d e).state es xs))
 
   from-later-stay : (d : Device) (es : List EventRecord) (xs : List Seen)
@@ -98,8 +98,8 @@ module _ (step : Device → EventRecord → Answer) where
       (λ _. let m = from-at-most (step d e).state es xs in (suc-le-suc m.0, suc-le-suc m.1))
 
   from-accepted : (d : Device) (es : List EventRecord) (xs : List Seen) (i : ℕ)
-      → suc i < (poll_from step d es xs).count → (answerAt d es i).number ≡ 0
-  unfolding poll_from stateAfter
+      → suc i < (poll_from step d es xs).count → (answer_at d es i).number ≡ 0
+  unfolding poll_from state_after
   from-accepted d [] xs i l = absurd (not-suc-le-zero l)
   from-accepted d (e ∷ es) [] i l = absurd (not-suc-le-zero l)
   from-accepted d (e ∷ es) (x ∷ xs) zero l =
@@ -107,22 +107,22 @@ module _ (step : Device → EventRecord → Answer) where
       (λ _ l. absurd (not-suc-le-zero (le_of_suc-le-suc l)))
       (λ t _. eqb-true (step d e).number 0 (not-false (eqb (step d e).number 0) t)) l
   from-accepted d (e ∷ es) (x ∷ xs) (suc i) l =
-      either (λ (r : After). suc (suc i) < suc r.count → (answerAt (step d e).state es i).number ≡ 0)
+      either (λ (r : After). suc (suc i) < suc r.count → (answer_at (step d e).state es i).number ≡ 0)
       (is_refused (step d e)) _ _ (λ _ l. absurd (not-suc-le-zero (le_of_suc-le-suc l)))
       (λ _ l. from-accepted (step d e).state es xs i (le_of_suc-le-suc l)) l
 
   -- k counts some events, and the last of them was refused
   abbrev pub EndsRefused : Device → List EventRecord → ℕ → Type 0
-  EndsRefused d es k = (j : ℕ) × (k ≡ suc j) × ((answerAt d es j).number ≡ 0 → ⊥)
+  EndsRefused d es k = (j : ℕ) × (k ≡ suc j) × ((answer_at d es j).number ≡ 0 → ⊥)
 
   one_later : (d : Device) (e : EventRecord) (es : List EventRecord) (k : ℕ) → EndsRefused (step d e).state es k
       → EndsRefused d (e ∷ es) (suc k)
-  unfolding stateAfter
+  unfolding state_after
   one_later d e es k (j, q, r) = (suc j, ap suc q, r)
 
   from_last : (d : Device) (es : List EventRecord) (xs : List Seen) → length es ≤ length xs
       → (poll_from step d es xs).count < length es → EndsRefused d es (poll_from step d es xs).count
-  unfolding poll_from stateAfter
+  unfolding poll_from state_after
   from_last d [] xs b l = absurd (not-suc-le-zero l)
   from_last d (e ∷ es) [] b l = absurd (not-suc-le-zero b)
   from_last d (e ∷ es) (x ∷ xs) b l =
@@ -139,17 +139,17 @@ module _ (d : Device) (es : List EventRecord) (xs : List Seen) where
   abbrev accepted : Bool
   accepted = eqb (poll_refusal d (length es) (length xs)) 0
 
-  pub one_by_one : (polled_of d es xs).state ≡ stateAfter single_of d (take k es)
-  unfolding polled_of after_poll stateAfter
+  pub one_by_one : (polled_of d es xs).state ≡ state_after single_of d (take k es)
+  unfolding polled_of after_poll state_after
   one_by_one =
-      pick_all (λ (r : After). r.state ≡ stateAfter single_of d (take r.count es)) accepted _ _
+      pick_all (λ (r : After). r.state ≡ state_after single_of d (take r.count es)) accepted _ _
       (from-one-by-one single_of d es xs) refl
 
-  pub written : take k (answers_after d es xs) ≡ map seen_in (answersTo single_of d (take k es))
-  unfolding polled_of after_poll answersTo
+  pub written : take k (answers_after d es xs) ≡ map seen_in (answers_to single_of d (take k es))
+  unfolding polled_of after_poll answers_to
   written =
       pick_all
-      (λ (r : After). take r.count r.answers ≡ map seen_in (answersTo single_of d (take r.count es)))
+      (λ (r : After). take r.count r.answers ≡ map seen_in (answers_to single_of d (take r.count es)))
       accepted _ _ (from-written single_of d es xs) refl
 
   pub later-stay : drop k (answers_after d es xs) ≡ drop k xs
@@ -169,10 +169,10 @@ module _ (d : Device) (es : List EventRecord) (xs : List Seen) where
       pick_all (λ (r : After). (r.count ≤ length es) × (r.count ≤ length xs)) accepted _ _
       (from-at-most single_of d es xs) (zero-le, zero-le)
 
-  pub accepted-before : (i : ℕ) → suc i < k → (answerAt single_of d es i).number ≡ 0
+  pub accepted-before : (i : ℕ) → suc i < k → (answer_at single_of d es i).number ≡ 0
   unfolding polled_of after_poll
   accepted-before =
-      pick_all (λ (r : After). (i : ℕ) → suc i < r.count → (answerAt single_of d es i).number ≡ 0) accepted _ _
+      pick_all (λ (r : After). (i : ℕ) → suc i < r.count → (answer_at single_of d es i).number ≡ 0) accepted _ _
       (from-accepted single_of d es xs) (λ i l. absurd (not-suc-le-zero l))
 
   pub last-refused : (polled_of d es xs).number ≡ 0 → k < length es → EndsRefused single_of d es k

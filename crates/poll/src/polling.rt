@@ -44,7 +44,7 @@ fn most_events(number: u8, length: usize) -> usize
     0
 }
 
-// A walk moves whole values only, so the parts of an answer are taken, and the poll's is put together, here.
+// The parts of an answer, and the poll's put together.
 pub fn state_in(answer: Answer) -> Device
     ensures { result ≡ answer.state }
 {

@@ -64,8 +64,8 @@ short = at fast (replicate 7 false ++ true ∷ [])
 abbrev once : Found
 once = at slow (false ∷ replicate 8 true)
 
-abbrev once_broken_lem : Found
-once_broken_lem = at slow (replicate 9 false)
+abbrev broken_once : Found
+broken_once = at slow (replicate 9 false)
 
 -- ---- by computing ----
 
@@ -104,11 +104,11 @@ pub record SamplingExamples : Type 0 where
   pub of_once : length once ≡ 9
   pub other : eqb (value_of (samples (level_at once) 9)) 0 ≡ false
   pub one : after slow once ≡ clean 254 ∷ []
-  pub once_broken : eqb (value_of (samples (level_at once_broken_lem) 9)) 0 ≡ true
-  pub one_break : after slow once_broken_lem ≡ break_character ∷ []
+  pub once_broken : eqb (value_of (samples (level_at broken_once) 9)) 0 ≡ true
+  pub one_break : after slow broken_once ≡ break_character ∷ []
   -- which eight highs at 16X end, and seven do not
-  pub slowly : after slow (once_broken_lem ++ at fast (false ∷ replicate 8 true ++ false ∷ []) ++ framed) ≡ break_character ∷ clean 85 ∷ []
-  pub not_slowly : after slow (once_broken_lem ++ at fast (false ∷ replicate 7 true ++ false ∷ []) ++ framed) ≡ break_character ∷ []
+  pub slowly : after slow (broken_once ++ at fast (false ∷ replicate 8 true ++ false ∷ []) ++ framed) ≡ break_character ∷ clean 85 ∷ []
+  pub not_slowly : after slow (broken_once ++ at fast (false ∷ replicate 7 true ++ false ∷ []) ++ framed) ≡ break_character ∷ []
   -- just enabled: lows do not count, until a high
   pub no_high : enabled (lines (at fast (false ∷ []) ++ framed)) ≡ []
   pub a_high : enabled (lines (at fast (false ∷ true ∷ false ∷ []) ++ framed)) ≡ clean 85 ∷ []
@@ -119,7 +119,7 @@ pub record SamplingExamples : Type 0 where
   pub unchanged : (flags fast framed ≡ replicate 153 false) × (flags fast unstopped ≡ replicate 153 false)
   pub seven_highs : (all_at true (at fast (replicate 7 true)) ≡ true) × (all_sixteen (at fast (replicate 7 true)) ≡ true)
   pub changes : flags fast (broken ++ at fast (false ∷ replicate 8 true)) ≡ replicate 152 false ++ true ∷ replicate 8 false ++ true ∷ []
-  pub changes_once : flags slow (once_broken_lem ++ at slow (false ∷ true ∷ [])) ≡ replicate 9 false ++ true ∷ false ∷ true ∷ []
+  pub changes_once : flags slow (broken_once ++ at slow (false ∷ true ∷ [])) ≡ replicate 9 false ++ true ∷ false ∷ true ∷ []
 
 pub sampling_examples : SamplingExamples
 unfolding computing arrivals
@@ -179,7 +179,7 @@ pub record StartExamples : Type 0 where
   -- what the statements suppose
   pub of_stopped : Stopped fast framed × Stopped slow once
   pub of_unstopped : Unstopped fast unstopped
-  pub of_broken : Broken fast broken × Broken slow once_broken_lem
+  pub of_broken : Broken fast broken × Broken slow broken_once
   pub of_few : (few (at fast (replicate 7 true)) ≡ true) × (few (at fast (replicate 8 true)) ≡ false) × (few (at slow (true ∷ [])) ≡ false)
   pub interrupted : (all_few interruptions ≡ true) × (length (runs interruptions) ≡ 13)
   -- the eighth high at 16X ends a break, and the first or the fourth at 1X
@@ -201,13 +201,13 @@ pub record StartExamples : Type 0 where
   pub enabled_low : starts_from (hunting false) (lines (at slow (false ∷ false ∷ true ∷ false ∷ []))) ≡ replicate 3 false ++ true ∷ []
   pub disabled : starts_from (hunting false) (pulse true fast ∷ lines (at fast (replicate 8 false)) ++ disable ∷ enable ∷ pulse false fast ∷ []) ≡ replicate 12 false
   -- a 1X break and then 16X: one high does not end it, with no low between; lows enough for another character are the same break
-  pub slow_waits : after slow (once_broken_lem ++ at fast (true ∷ replicate 153 false)) ≡ break_character ∷ []
+  pub slow_waits : after slow (broken_once ++ at fast (true ∷ replicate 153 false)) ≡ break_character ∷ []
   -- three highs at 16X and then one at 1X end it, and what follows is heard
   pub mixed : after fast (broken ++ at fast (replicate 3 true) ++ at slow (true ∷ false ∷ []) ++ once) ≡ break_character ∷ clean 254 ∷ []
   -- any number of interrupted runs, and break change at none of them
   pub runs_wait : after fast (broken ++ runs interruptions ++ at fast (replicate 7 true)) ≡ break_character ∷ []
   pub runs_unchanged : flags fast (broken ++ runs interruptions) ≡ replicate 152 false ++ true ∷ replicate 13 false
-  pub runs_slow : flags slow (once_broken_lem ++ runs interruptions ++ at fast (replicate 8 true)) ≡ replicate 9 false ++ true ∷ replicate 20 false ++ true ∷ []
+  pub runs_slow : flags slow (broken_once ++ runs interruptions ++ at fast (replicate 8 true)) ≡ replicate 9 false ++ true ∷ replicate 20 false ++ true ∷ []
   -- nor at a false start, a 1X character, or a low while it hunts
   pub none_changes : (flags fast short ≡ replicate 9 false) × (flags slow once ≡ replicate 10 false)
   pub hunting_unchanged : flags_from (hunting false) (lines broken) ≡ replicate 152 false

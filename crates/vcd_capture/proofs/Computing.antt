@@ -58,8 +58,8 @@ abbrev pub wire_b : List ℕ
 wire_b = bytes_of "RxDB"
 
 abbrev pub handed : Asked → List String → Bool → List ℕ
-handed q body channelB = handed_of q (text_of body) wire_a wire_b 100 100 channelB
+handed q body channel_b = handed_of q (text_of body) wire_a wire_b 100 100 channel_b
 
 -- the answer where the logs have so much room
 abbrev pub answer : Asked → List String → ℕ → ℕ → Captured
-answer q body roomA roomB = captured_of q (text_of body) wire_a wire_b roomA roomB
+answer q body room_a room_b = captured_of q (text_of body) wire_a wire_b room_a room_b

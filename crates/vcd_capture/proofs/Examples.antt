@@ -98,7 +98,7 @@ each_channel = (refl, refl)
 
 -- "the caller names the two wires": the first is A's; and one wire for both
 abbrev naming : String → String → Bool → List ℕ
-naming a b channelB = handed_of fast (text_of both) (bytes_of a) (bytes_of b) 2 2 channelB
+naming a b channel_b = handed_of fast (text_of both) (bytes_of a) (bytes_of b) 2 2 channel_b
 
 pub other_names : (naming "RxDB" "RxDA" false ≡ 10 ∷ 0 ∷ [])
     × (naming "RxDB" "RxDA" true ≡ 21 ∷ 0 ∷ [])
@@ -160,7 +160,7 @@ five_in_a_row = refl
 
 -- MR1 0 and 4: with parity, even and odd. Pulse 106 samples a high parity bit, and pulse 122 at 198,567 the stop
 abbrev with_parity : ℕ → Bool → List ℕ
-with_parity mr1 channelB = handed (record { mr1 = mr1; acr7 = false; code = 12 }) (bits ++ "#198567" ∷ []) channelB
+with_parity mr1 channel_b = handed (record { mr1 = mr1; acr7 = false; code = 12 }) (bits ++ "#198567" ∷ []) channel_b
 
 pub parity : (with_parity 0 false ≡ 21 ∷ 0 ∷ []) × (with_parity 0 true ≡ 10 ∷ 32 ∷ [])
     × (with_parity 4 false ≡ 21 ∷ 32 ∷ []) × (with_parity 4 true ≡ 10 ∷ 0 ∷ [])
@@ -182,7 +182,7 @@ second_set = (refl, refl)
 
 -- "Refusals, in this order: 5 .., 10 .., 11 .., 8 either log too short"
 abbrev number : Asked → List String → ℕ → ℕ → ℕ
-number q body roomA roomB = (answer q body roomA roomB).number
+number q body room_a room_b = (answer q body room_a room_b).number
 
 abbrev coded : ℕ → Asked
 coded code = record { mr1 = 16; acr7 = false; code = code }
@@ -239,16 +239,16 @@ refused_part = (refl, refl, refl, refl)
 
 -- each has its own channel's characters, and past them what it held; "both logs stay" where one is too short
 abbrev Met : List ℕ → List ℕ → List ℕ → List ℕ → Captured → Type 0
-Met beforeA beforeB afterA afterB r =
-    CaptureMet fast (text_of twice) wire_a wire_b beforeA beforeB afterA afterB r
+Met before_a before_b after_a after_b r =
+    CaptureMet fast (text_of twice) wire_a wire_b before_a before_b after_a after_b r
 
-pub logs_filled : (afterA afterB : List ℕ) (r : Captured) → Met (7 ∷ 7 ∷ 7 ∷ 7 ∷ 7 ∷ []) (9 ∷ 9 ∷ []) afterA afterB r
-    → (afterA ≡ 21 ∷ 0 ∷ 1 ∷ 0 ∷ 7 ∷ []) × (afterB ≡ 10 ∷ 0 ∷ [])
+pub logs_filled : (after_a after_b : List ℕ) (r : Captured) → Met (7 ∷ 7 ∷ 7 ∷ 7 ∷ 7 ∷ []) (9 ∷ 9 ∷ []) after_a after_b r
+    → (after_a ≡ 21 ∷ 0 ∷ 1 ∷ 0 ∷ 7 ∷ []) × (after_b ≡ 10 ∷ 0 ∷ [])
     × (r ≡ record { number = 0; length_a = 4; length_b = 2 })
 unfolding capturing
-logs_filled afterA afterB r m = (m.first, m.second, m.answer)
+logs_filled after_a after_b r m = (m.first, m.second, m.answer)
 
-pub logs_stay : (afterA afterB : List ℕ) (r : Captured) → Met (7 ∷ 7 ∷ 7 ∷ 7 ∷ []) (9 ∷ []) afterA afterB r
-    → (afterA ≡ 7 ∷ 7 ∷ 7 ∷ 7 ∷ []) × (afterB ≡ 9 ∷ []) × (r ≡ record { number = 8; length_a = 0; length_b = 0 })
+pub logs_stay : (after_a after_b : List ℕ) (r : Captured) → Met (7 ∷ 7 ∷ 7 ∷ 7 ∷ []) (9 ∷ []) after_a after_b r
+    → (after_a ≡ 7 ∷ 7 ∷ 7 ∷ 7 ∷ []) × (after_b ≡ 9 ∷ []) × (r ≡ record { number = 8; length_a = 0; length_b = 0 })
 unfolding capturing
-logs_stay afterA afterB r m = (m.first, m.second, m.answer)
+logs_stay after_a after_b r m = (m.first, m.second, m.answer)

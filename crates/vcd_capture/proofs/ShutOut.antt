@@ -95,8 +95,8 @@ no_data_alone = omega arith
 
 -- a log, given the other's room
 abbrev a_after : List String → ℕ → List ℕ → List ℕ
-a_after body roomB log =
-    log_after (number_of fast (text_of body) wire_a wire_b (length log) roomB)
+a_after body room_b log =
+    log_after (number_of fast (text_of body) wire_a wire_b (length log) room_b)
     (log_a fast (text_of body) wire_a wire_b) log
 
 -- "8 either log too short .. both logs stay": one byte short, and written; the other one short, and this one written
@@ -181,12 +181,12 @@ unfolding capturing
 no_refused_handed = omega arith
 
 -- one that hands the same for all, refuses all, or hands the first character alone
-no_constant : (l : List ℕ) → ((q : Asked) (body : List String) (channelB : Bool) → l ≡ handed q body channelB) → ⊥
+no_constant : (l : List ℕ) → ((q : Asked) (body : List String) (channel_b : Bool) → l ≡ handed q body channel_b) → ⊥
 unfolding capturing
 no_constant l h = omega (arith, ap (λ (x : List ℕ). get_or x 0 0) (sym (h fast both false) ∙ h fast both true))
 
 no_all_refused : (n : ℕ)
-    → ((q : Asked) (body : List String) (roomA roomB : ℕ) → n + 1 ≡ (answer q body roomA roomB).number) → ⊥
+    → ((q : Asked) (body : List String) (room_a room_b : ℕ) → n + 1 ≡ (answer q body room_a room_b).number) → ⊥
 unfolding capturing
 no_all_refused n h = omega (arith, h fast both 2 2)
 

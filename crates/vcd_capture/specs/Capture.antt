@@ -35,9 +35,9 @@ log_of q text s wire = log_bytes (characters_of q text s wire)
 
 -- "Refusals, in this order: 5 (a code above 12 too), 10 .., 11 .., 8 either log too short"
 unfoldable pub capture_refusal : Asked → Scanned → ℕ → ℕ → ℕ → ℕ → ℕ
-capture_refusal q s a b roomA roomB =
+capture_refusal q s a b room_a room_b =
     pick (mr1_not_modelled q.mr1 || ltb 12 q.code) 5
-    (pick (eqb s.number 0) (pick (ltb roomA a || ltb roomB b) 8 0) s.number)
+    (pick (eqb s.number 0) (pick (ltb room_a a || ltb room_b b) 8 0) s.number)
 
 -- the call: what it asks for, the text, the two names and the two logs' lengths
 abbrev pub log_a : Asked → List ℕ → List ℕ → List ℕ → List ℕ
@@ -47,15 +47,15 @@ abbrev pub log_b : Asked → List ℕ → List ℕ → List ℕ → List ℕ
 log_b q text a b = log_of q text (scan_of text a b) (scan_of text a b).code_b
 
 abbrev pub number_of : Asked → List ℕ → List ℕ → List ℕ → ℕ → ℕ → ℕ
-number_of q text a b roomA roomB =
-    capture_refusal q (scan_of text a b) (length (log_a q text a b)) (length (log_b q text a b)) roomA roomB
+number_of q text a b room_a room_b =
+    capture_refusal q (scan_of text a b) (length (log_a q text a b)) (length (log_b q text a b)) room_a room_b
 
 unfoldable pub captured_of : Asked → List ℕ → List ℕ → List ℕ → ℕ → ℕ → Captured
-captured_of q text a b roomA roomB =
+captured_of q text a b room_a room_b =
     record {
-      number = number_of q text a b roomA roomB;
-      length_a = pick (eqb (number_of q text a b roomA roomB) 0) (length (log_a q text a b)) 0;
-      length_b = pick (eqb (number_of q text a b roomA roomB) 0) (length (log_b q text a b)) 0;
+      number = number_of q text a b room_a room_b;
+      length_a = pick (eqb (number_of q text a b room_a room_b) 0) (length (log_a q text a b)) 0;
+      length_b = pick (eqb (number_of q text a b room_a room_b) 0) (length (log_b q text a b)) 0;
     }
 
 -- a log then: the characters of its channel, and past them what it held; "both logs stay" where the call is refused
@@ -63,12 +63,12 @@ unfoldable pub log_after : ℕ → List ℕ → List ℕ → List ℕ
 log_after number filled log = pick (eqb number 0) (filled ++ drop (length filled) log) log
 
 -- what is promised of a call: the answer, and both logs whole
-pub record CaptureMet (q : Asked) (text a b beforeA beforeB afterA afterB : List ℕ) (r : Captured) : Type 0 where
-  pub answer : r ≡ captured_of q text a b (length beforeA) (length beforeB)
-  pub first : afterA ≡ log_after (number_of q text a b (length beforeA) (length beforeB)) (log_a q text a b) beforeA
-  pub second : afterB ≡ log_after (number_of q text a b (length beforeA) (length beforeB)) (log_b q text a b) beforeB
+pub record CaptureMet (q : Asked) (text a b before_a before_b after_a after_b : List ℕ) (r : Captured) : Type 0 where
+  pub answer : r ≡ captured_of q text a b (length before_a) (length before_b)
+  pub first : after_a ≡ log_after (number_of q text a b (length before_a) (length before_b)) (log_a q text a b) before_a
+  pub second : after_b ≡ log_after (number_of q text a b (length before_a) (length before_b)) (log_b q text a b) before_b
 
 -- "the caller names a channel and is handed the filled part of that channel's log"; "the part is then empty"
 unfoldable pub handed_of : Asked → List ℕ → List ℕ → List ℕ → ℕ → ℕ → Bool → List ℕ
-handed_of q text a b roomA roomB channelB =
-    pick (eqb (number_of q text a b roomA roomB) 0) (pick channelB (log_b q text a b) (log_a q text a b)) []
+handed_of q text a b room_a room_b channel_b =
+    pick (eqb (number_of q text a b room_a room_b) 0) (pick channel_b (log_b q text a b) (log_a q text a b)) []

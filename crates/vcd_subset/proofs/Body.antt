@@ -289,10 +289,10 @@ module _ (known : ℕ → Bool) where
 
   -- ---- in a value line ----
 
-  abbrev codedAs : Reading → ℕ → Reading
-  codedAs r b = record { place = 5; timed = r.timed; time = r.time; level = r.level; code = b }
+  abbrev coded_as : Reading → ℕ → Reading
+  coded_as r b = record { place = 5; timed = r.timed; time = r.time; level = r.level; code = b }
 
-  level-code : (r : Reading) (b : ℕ) → r.place ≡ 4 → taken_of r b true ≡ codedAs r b
+  level-code : (r : Reading) (b : ℕ) → r.place ≡ 4 → taken_of r b true ≡ coded_as r b
   unfolding taken_of coded pick
   level-code r b e = rw e
 
@@ -308,7 +308,7 @@ module _ (known : ℕ → Bool) where
       quiet = quiet_at r b (λ (z : r.place ≡ 2). omega arith) (λ (z : r.place ≡ 3). omega arith) (λ (z : r.place ≡ 5). omega arith)
 
       go : (k : Bool) → known b ≡ k → Back 4 r (b ∷ bs)
-      go true k = moves 4 5 r (codedAs r b) b bs (rw k (level-code r b e)) quiet refl refl (refl, (t, k)) ih h
+      go true k = moves 4 5 r (coded_as r b) b bs (rw k (level-code r b e)) quiet refl refl (refl, (t, k)) ih h
       go false k = leaves r b bs (rw k (level_out r b e)) h
 
   code-ends : (r : Reading) (k : Bool) → r.place ≡ 5 → (taken_of r 10 k ≡ placed r 0) × (line_of (said_of r 10) ≡ Value r.code r.level ∷ [])

@@ -39,8 +39,8 @@ module _ (known : ℕ → Bool) where
   -- ---- a number ----
 
   -- a reading that stands in this time, or after the time 0
-  abbrev inNumber : Reading → ℕ → Reading
-  inNumber r n = pick (eqb n 0) (timing r 3 0) (timing r 2 n)
+  abbrev in_number : Reading → ℕ → Reading
+  in_number r n = pick (eqb n 0) (timing r 3 0) (timing r 2 n)
 
   no_line : (r : Reading) (b : ℕ) → (b ≡ 10 → ⊥) → line_of (said_of r b) ≡ []
   unfolding said_of pick
@@ -49,7 +49,7 @@ module _ (known : ℕ → Bool) where
   digit-is : (d : ℕ) → d < 10 → digit (48 + d) ≡ true
   digit-is d h = rw (lt-ltb 47 (48 + d) (omega arith), lt-ltb (48 + d) 58 (omega arith))
 
-  first-digit : (r : Reading) (n : ℕ) (k : Bool) → n < 10 → taken_of (placed r 1) (48 + n) k ≡ inNumber r n
+  first-digit : (r : Reading) (n : ℕ) (k : Bool) → n < 10 → taken_of (placed r 1) (48 + n) k ≡ in_number r n
   unfolding taken_of first_digit pick
   first-digit r zero k h = refl
   first-digit r (suc n) k h =
@@ -77,37 +77,37 @@ module _ (known : ℕ → Bool) where
   reads-one : (a : Reading) (x : ℕ) (b : Reading) (ls : List Line) → taken_of a x (known x) ≡ b → line_of (said_of a x) ≡ ls → Reads a (x ∷ []) b ls
   reads-one a x b ls e f = let (r, s) = read_one a x in record { reading = r ∙ e; said = s ∙ f }
 
-  one-digit : (k : ℕ) (r : Reading) (n : ℕ) → n < 10 → Reads (placed r 1) (decimal_of (suc k) n) (inNumber r n) []
+  one-digit : (k : ℕ) (r : Reading) (n : ℕ) → n < 10 → Reads (placed r 1) (decimal_of (suc k) n) (in_number r n) []
   one-digit k r n h =
       rw (decimal_last (suc k) n (λ (z : suc k ≡ 0). omega arith) h)
-      (reads-one (placed r 1) (48 + n) (inNumber r n) [] (first-digit r n _ h)
+      (reads-one (placed r 1) (48 + n) (in_number r n) [] (first-digit r n _ h)
       (no_line (placed r 1) (48 + n) (λ (z : 48 + n ≡ 10). omega arith)))
 
-  in-number : (r : Reading) (n : ℕ) → (n ≡ 0 → ⊥) → inNumber r n ≡ timing r 2 n
+  in-number : (r : Reading) (n : ℕ) → (n ≡ 0 → ⊥) → in_number r n ≡ timing r 2 n
   unfolding pick
   in-number r n h = rw (ne_eqb n 0 h)
 
-  more-digits : (k : ℕ) (r : Reading) (n : ℕ) → 10 ≤ n → n ≤ 4000000000 → Reads (placed r 1) (decimal_of (suc k) (n / 10)) (inNumber r (n / 10)) [] → Reads (placed r 1) (decimal_of (suc (suc k)) n) (inNumber r n) []
+  more-digits : (k : ℕ) (r : Reading) (n : ℕ) → 10 ≤ n → n ≤ 4000000000 → Reads (placed r 1) (decimal_of (suc k) (n / 10)) (in_number r (n / 10)) [] → Reads (placed r 1) (decimal_of (suc (suc k)) n) (in_number r n) []
   more-digits k r n h bound p =
       let whole : n / 10 * 10 + n % 10 ≡ n = omega arith in
       let e : suc (suc k) - 1 ≡ suc k = omega arith in
-      let first : inNumber r (n / 10) ≡ timing r 2 (n / 10) = in-number r (n / 10) (λ (z : n / 10 ≡ 0). omega arith) in
-      let last : taken_of (inNumber r (n / 10)) (48 + n % 10) (known (48 + n % 10)) ≡ inNumber r n =
+      let first : in_number r (n / 10) ≡ timing r 2 (n / 10) = in-number r (n / 10) (λ (z : n / 10 ≡ 0). omega arith) in
+      let last : taken_of (in_number r (n / 10)) (48 + n % 10) (known (48 + n % 10)) ≡ in_number r n =
       rw (first, next-digit r (n / 10) (n % 10) (known (48 + n % 10)) (omega arith) (omega arith), whole)
       (sym (in-number r n (λ (z : n ≡ 0). omega arith))) in
       rw (decimal_more (suc (suc k)) n (λ (z : suc (suc k) ≡ 0). omega arith) h, e)
       (reads_then p
-      (reads-one (inNumber r (n / 10)) (48 + n % 10) (inNumber r n) [] last
-      (no_line (inNumber r (n / 10)) (48 + n % 10) (λ (z : 48 + n % 10 ≡ 10). omega arith))))
+      (reads-one (in_number r (n / 10)) (48 + n % 10) (in_number r n) [] last
+      (no_line (in_number r (n / 10)) (48 + n % 10) (λ (z : 48 + n % 10 ≡ 10). omega arith))))
 
-  digits-read : (k : ℕ) (r : Reading) (n : ℕ) → n < 10 ^ suc k → n ≤ 4000000000 → Reads (placed r 1) (decimal_of (suc k) n) (inNumber r n) []
+  digits-read : (k : ℕ) (r : Reading) (n : ℕ) → n < 10 ^ suc k → n ≤ 4000000000 → Reads (placed r 1) (decimal_of (suc k) n) (in_number r n) []
   digits-read zero r n fits bound = one-digit 0 r n fits
   digits-read (suc k) r n fits bound = go (digits-read k r (n / 10) less (omega arith)) (ltb n 10) refl
     where
       less : n / 10 < 10 ^ suc k
       less = let f : n < 10 * 10 ^ suc k = rw (pow-succ' 10 (suc k)) at fits in omega arith
 
-      go : Reads (placed r 1) (decimal_of (suc k) (n / 10)) (inNumber r (n / 10)) [] → (t : Bool) → ltb n 10 ≡ t → Reads (placed r 1) (decimal_of (suc (suc k)) n) (inNumber r n) []
+      go : Reads (placed r 1) (decimal_of (suc k) (n / 10)) (in_number r (n / 10)) [] → (t : Bool) → ltb n 10 ≡ t → Reads (placed r 1) (decimal_of (suc (suc k)) n) (in_number r n) []
       go p true e = one-digit (suc k) r n (ltb-true n 10 e)
       go p false e = more-digits k r n (ltb-false n 10 e) bound p
 
@@ -122,7 +122,7 @@ module _ (known : ℕ → Bool) where
   unfolding taken_of next_digit said_of pick
   number-ends r m k = (refl, refl)
 
-  time-ends : (r : Reading) (n : ℕ) → Reads (inNumber r n) (10 ∷ []) (time_ended (timing r 0 n)) (Time n ∷ [])
+  time-ends : (r : Reading) (n : ℕ) → Reads (in_number r n) (10 ∷ []) (time_ended (timing r 0 n)) (Time n ∷ [])
   unfolding pick
   time-ends r zero =
       let (a, b) = nought-ends r (known 10) in
@@ -151,8 +151,8 @@ module _ (known : ℕ → Bool) where
   abbrev leveled : Reading → Bool → Reading
   leveled r v = record { place = 4; timed = true; time = r.time; level = v; code = r.code }
 
-  abbrev codedAs : Reading → ℕ → Bool → Reading
-  codedAs r c v = record { place = 5; timed = true; time = r.time; level = v; code = c }
+  abbrev coded_as : Reading → ℕ → Bool → Reading
+  coded_as r c v = record { place = 5; timed = true; time = r.time; level = v; code = c }
 
   value-begins : (r : Reading) (v k : Bool) → r.timed ≡ true → taken_of (placed r 0) (digit_of v) k ≡ leveled r v
   unfolding taken_of begun pick digit_of
@@ -164,7 +164,7 @@ module _ (known : ℕ → Bool) where
   no-value-yet r true = refl
   no-value-yet r false = refl
 
-  code-follows : (r : Reading) (c : ℕ) (v : Bool) → taken_of (leveled r v) c true ≡ codedAs r c v
+  code-follows : (r : Reading) (c : ℕ) (v : Bool) → taken_of (leveled r v) c true ≡ coded_as r c v
   unfolding taken_of coded pick
   code-follows r c v = refl
 
@@ -176,7 +176,7 @@ module _ (known : ℕ → Bool) where
       go true = refl
       go false = refl
 
-  value-ends : (r : Reading) (c : ℕ) (v k : Bool) → (taken_of (codedAs r c v) 10 k ≡ valued r c v) × (line_of (said_of (codedAs r c v) 10) ≡ Value c v ∷ [])
+  value-ends : (r : Reading) (c : ℕ) (v k : Bool) → (taken_of (coded_as r c v) 10 k ≡ valued r c v) × (line_of (said_of (coded_as r c v) 10) ≡ Value c v ∷ [])
   unfolding taken_of must_end said_of pick
   value-ends r c v k = (refl, refl)
 
@@ -184,9 +184,9 @@ module _ (known : ℕ → Bool) where
   unfolding line_text
   value_line r c v h e =
       let (a, b) = value-ends r c v (known 10) in
-      let code : taken_of (leveled r v) c (known c) ≡ codedAs r c v = rw e (code-follows r c v) in
+      let code : taken_of (leveled r v) c (known c) ≡ coded_as r c v = rw e (code-follows r c v) in
       reads_then (reads-one (placed r 0) (digit_of v) (leveled r v) [] (value-begins r v (known (digit_of v)) h) (no-value-yet r v))
-      (reads_then (reads-one (leveled r v) c (codedAs r c v) [] code (no-code-yet r c v)) (reads-one (codedAs r c v) 10 (valued r c v) (Value c v ∷ []) a b))
+      (reads_then (reads-one (leveled r v) c (coded_as r c v) [] code (no-code-yet r c v)) (reads-one (coded_as r c v) 10 (valued r c v) (Value c v ∷ []) a b))
 
   -- ---- lines ----
 

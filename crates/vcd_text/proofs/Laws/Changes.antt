@@ -20,11 +20,11 @@ same_values code (true ∷ vs) = same_values (suc code) vs
 same_values code (false ∷ vs) = same_values (suc code) vs
 
 cons_not_nil : (x : ℕ) (xs : List ℕ) → x ∷ xs ≡ [] → ⊥
-cons_not_nil x xs e = let z : ◌≡◌ {A = ℕ} 1 0 = ap nonEmpty e in omega arith
+cons_not_nil x xs e = let z : ◌≡◌ {A = ℕ} 1 0 = ap non_empty e in omega arith
   where
-    nonEmpty : List ℕ → ℕ
-    nonEmpty [] = 0
-    nonEmpty (y ∷ ys) = 1
+    non_empty : List ℕ → ℕ
+    non_empty [] = 0
+    non_empty (y ∷ ys) = 1
 
 -- where as many as before are not written, they are those
 pub no_values : (code : ℕ) (us vs : List Bool) → length us ≡ length vs → value_lines code us vs ≡ [] → us ≡ vs
