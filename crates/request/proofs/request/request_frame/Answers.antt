@@ -3,7 +3,6 @@
 use mathlib.Core.Path.{◌≡◌, ap}
 use native.Mathlib.Omega.{arith}
 use lib.ListN.{length}
-use borrow.Author.Rules.{rules}
 use Rattle.request.specs.declared.request.FrameAnswer.{FrameAnswer}
 use Rattle.request.specs.Request.{request_of}
 use Rattle.request.proofs.Laws.Request.{request_within, over_asked}

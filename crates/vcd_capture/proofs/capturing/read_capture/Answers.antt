@@ -9,8 +9,6 @@ use Rattle.text.proofs.Laws.Puts.{puts_as}
 use Rattle.vcd_read.specs.Scan.{scan_of}
 use Rattle.vcd_capture.specs.Capture.{log_a, log_b}
 use Rattle.vcd_capture.proofs.Laws.Capture.{from_start, heard_is, five, by-text, eight, none, refused, accepted}
-use borrow.Author.Rules.{rules}
-use Rattle.format.proofs.mr1_not_modelled.Reads as mr1-not-modelled-reads
 use Rattle.vcd_capture.proofs.capturing.read_capture.Goals as goal
 
 pub returns-then-mr1_not_modelled-asked : goal.returns-then-mr1_not_modelled-asked
