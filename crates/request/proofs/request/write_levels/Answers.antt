@@ -17,17 +17,15 @@ bounds-space-at c = omega (arith, c.requires)
 
 pub loop-i-preserved : goal.loop-i-preserved
 loop-i-preserved c =
-    let at = c in
-    let start = at in
-    let a = start.args in
+    let a = c.args in
     let n = open_length a.mr1 a.byte a.pulses.0 in
     let level_is : c.level_byte.result ≡ get_or (open_levels a.mr1 a.byte a.pulses.0) c.loop-i.i 1 =
     rw (c.level_byte.ensures, c.level_of.ensures, c.frame_bits-bits.ensures)
     (sym (open_at a.mr1 a.byte a.pulses.0 c.loop-i.i)) in (
       omega arith,
-      rw (level_is, at.loop-i.invariant.1, add-one)
-          (over_more (open_levels a.mr1 a.byte a.pulses.0) a.space.now at.loop-i.i (omega (arith, start.requires)) (omega arith)),
-      simp length-set at.loop-i.invariant.2,
+      rw (level_is, c.loop-i.invariant.1, add-one)
+          (over_more (open_levels a.mr1 a.byte a.pulses.0) a.space.now c.loop-i.i (omega (arith, c.requires)) (omega arith)),
+      simp length-set c.loop-i.invariant.2,
     )
 
 pub shape_of-space : goal.shape_of-space
@@ -35,7 +33,6 @@ shape_of-space c = c.loop-i.invariant.2
 
 pub returns : goal.returns
 returns c =
-    let at = c in
-    let a = at.args in
-    let e : at.loop-i.i ≡ a.pulses.0 = omega arith in
-    at.loop-i.invariant.1 ∙ rw e
+    let a = c.args in
+    let e : c.loop-i.i ≡ a.pulses.0 = omega arith in
+    c.loop-i.invariant.1 ∙ rw e
