@@ -4,7 +4,6 @@ use mathlib.Core.Path.{◌≡◌}
 use native.Mathlib.Omega.{arith}
 use native.Mathlib.Nat.{mod-lt}
 use lib.Pow.{pow_pos, pow_mono}
-use borrow.Author.Rules.{rules}
 use Rattle.format.proofs.Laws.Digits.{power}
 use Rattle.format.proofs.Laws.{steps}
 use Rattle.format.specs.declared.counts.Bits.{Bits}
