@@ -1,6 +1,6 @@
 -- The lines of a text, in the order that the definition writes them: as text they are that text; their times rise, the values of a wire change,
 -- and at each time a wire has its value of that time. By induction on the times, and on the wires of one. Assumes nothing.
-use Prim.Native.Nat.{ℕ, suc, ◌+◌, ◌≤◌}
+use Prim.Native.Nat.{ℕ, suc, ◌≤◌}
 use mathlib.Core.Path.{◌≡◌, refl, sym, ◌∙◌, ap}
 use mathlib.Core.Bool.{Bool, true, false}
 use mathlib.Core.List.{List, [], ◌∷◌, ◌++◌, append_assoc}

@@ -1,5 +1,4 @@
 -- `list_byte` meets its contract: after each turn the line holds one level more, and the last answer is a bit further. Assumes nothing.
-use Prim.Native.Nat.{◌-◌}
 use mathlib.Core.Path.{◌≡◌, refl}
 use native.Mathlib.Omega.{arith}
 use lib.ListN.{length-set}

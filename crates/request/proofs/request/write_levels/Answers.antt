@@ -1,6 +1,5 @@
 -- `write_levels` meets its contract. The invariant of its loop: the first i levels stand over the front of the space, and the rest is as it was.
 -- A turn writes the frame's next level, which is bit i / 16 of the register. Assumes nothing.
-use Prim.Native.Nat.{◌-◌}
 use mathlib.Core.Path.{◌≡◌, refl, sym, ◌∙◌}
 use native.Mathlib.Numerals.{add-one}
 use native.Mathlib.Omega.{arith}

@@ -1,5 +1,5 @@
 -- `hear_pulses` meets its contract. The invariant of its loop: the pulses that are left lead to the end that is asked. Assumes nothing.
-use Prim.Native.Nat.{◌+◌, ◌-◌, ◌*◌, ◌≤◌}
+use Prim.Native.Nat.{◌+◌, ◌*◌, ◌≤◌}
 use mathlib.Core.Path.{◌≡◌}
 use lib.ListN.{length}
 use Rattle.sampler.specs.Lines.{after_lines, arrivals}

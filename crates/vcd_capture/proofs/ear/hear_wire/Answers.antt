@@ -1,5 +1,4 @@
 -- `hear_wire` meets its contract. The invariant of its loop: the bytes that are left lead to the log that is asked. Assumes nothing.
-use Prim.Native.Nat.{◌-◌}
 use mathlib.Core.Path.{refl, ◌∙◌}
 use mathlib.Core.Bool.{true}
 use native.Mathlib.Omega.{arith}

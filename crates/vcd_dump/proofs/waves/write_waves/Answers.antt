@@ -1,5 +1,4 @@
 -- `write_waves` meets its contract. The invariant of its loop: what is left of the text leads to the whole. Assumes nothing.
-use Prim.Native.Nat.{◌-◌}
 use mathlib.Core.Path.{refl, ◌∙◌, ap}
 use native.Mathlib.Omega.{arith}
 use Rattle.chip_step.specs.Chip.{step_of}

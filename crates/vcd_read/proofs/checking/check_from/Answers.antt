@@ -1,5 +1,4 @@
 -- `check_from` meets its contract. The invariant of its loop: the bytes that are left lead to the end that is asked. Assumes nothing.
-use Prim.Native.Nat.{◌-◌}
 use mathlib.Core.Path.{sym, ◌∙◌}
 use native.Mathlib.Omega.{arith}
 use Rattle.vcd_read.specs.Scan.{in_table}

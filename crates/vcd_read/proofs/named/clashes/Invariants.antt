@@ -1,5 +1,5 @@
 -- `clashes` meets its contract. The invariant of its loop: the wires that are left decide. Assumes nothing.
-use Prim.Native.Nat.{◌-◌, ◌≤◌}
+use Prim.Native.Nat.{◌≤◌}
 use mathlib.Core.Path.{◌≡◌}
 use lib.ListN.{length, drop}
 use Rattle.vcd_read.specs.Wires.{wires_of, clash_of}

@@ -1,5 +1,5 @@
 -- `name_length` meets its contract. The invariant of its loop: those counted, and those that are left, are the name. Assumes nothing.
-use Prim.Native.Nat.{◌+◌, ◌-◌}
+use Prim.Native.Nat.{◌+◌}
 use mathlib.Core.Path.{◌≡◌, sym, ◌∙◌}
 use native.Mathlib.Omega.{arith}
 use Rattle.vcd_read.proofs.Laws.Starts.{name-over, name-ends, name-on, name-full}

@@ -1,5 +1,5 @@
 -- `starts_at` meets its contract. The invariant of its loop: what is left to compare decides. Assumes nothing.
-use Prim.Native.Nat.{◌+◌, ◌-◌}
+use Prim.Native.Nat.{◌+◌}
 use mathlib.Core.Path.{◌≡◌, sym, ◌∙◌}
 use native.Mathlib.Omega.{arith}
 use Rattle.vcd_read.proofs.Laws.Starts.{starts-over, starts_other, starts-on, starts-all}
