@@ -26,10 +26,13 @@ WORDS = {
     "afterB": "after_b",
     "channelB": "channel_b",
     "inDemands": "in_demands",
+    "inClocks": "in_clocks",
+    "inFrontClocks": "in_front_clocks",
+    "fromBits": "from_bits",
     # an input, and no lemma
     "once_broken_lem": "broken_once",
 }
-CRATES = "poll demands_calls capture_laws demands demands_met vcd_text vcd_lines vcd_subset vcd_capture duart capture sampler_laws".split()
+CRATES = "poll demands_calls capture_laws demands demands_met vcd_text vcd_lines vcd_subset vcd_capture duart capture sampler_laws byte_bits chip_laws lister_laws".split()
 LETTER = r"[\w'′-]"
 
 for crate in CRATES:

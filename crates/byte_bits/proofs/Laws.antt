@@ -3,7 +3,7 @@
 use Prim.Native.Nat.{ℕ, zero, suc, ◌+◌, ◌≤◌, ◌<◌}
 use mathlib.Core.Path.{◌≡◌, refl, sym, ◌∙◌, ap}
 use mathlib.Core.Bool.{Bool, true, false}
-use mathlib.Core.List.{List, [], ◌∷◌, map}
+use mathlib.Core.List.{List, [], ◌∷◌}
 use native.Mathlib.Omega.{arith}
 use native.Mathlib.Nat.{add-zero, zero-add}
 use lib.ListN.{replicate, get_or}
@@ -63,10 +63,10 @@ listed_at table (suc n) k (suc i) h =
 pub own_bits : (x : ℕ) → x < 256
     → byte_of (has_bit x 7) (has_bit x 6) (has_bit x 5) (has_bit x 4) (has_bit x 3) (has_bit x 2) (has_bit x 1) (has_bit x 0) ≡ x
 own_bits x h =
-    sym (at fromBits) ∙ ap (λ (l : List ℕ). get_or l x 0) weighs.whole ∙ at (λ (y : ℕ). y)
+    sym (at from_bits) ∙ ap (λ (l : List ℕ). get_or l x 0) weighs.whole ∙ at (λ (y : ℕ). y)
   where
-    fromBits : ℕ → ℕ
-    fromBits y = byte_of (has_bit y 7) (has_bit y 6) (has_bit y 5) (has_bit y 4) (has_bit y 3) (has_bit y 2) (has_bit y 1) (has_bit y 0)
+    from_bits : ℕ → ℕ
+    from_bits y = byte_of (has_bit y 7) (has_bit y 6) (has_bit y 5) (has_bit y 4) (has_bit y 3) (has_bit y 2) (has_bit y 1) (has_bit y 0)
 
     at : (table : ℕ → ℕ) → get_or (listed table 256 0) x 0 ≡ table x
     at table = listed_at table 256 0 x h ∙ ap table (zero-add x)

@@ -14,7 +14,6 @@ use Rattle.feed.specs.declared.feed.Setting.{Setting}
 use Rattle.character.specs.declared.character.Character.{Character}
 use Rattle.sampler_state.specs.State.{hunting}
 use Rattle.sampler.specs.Lines.{at16, arrivals}
-use Rattle.sampler.specs.Lines as Hearing
 use Rattle.events.specs.declared.events.Event.{Event}
 use Rattle.chip_answers.specs.declared.answers.Lines.{Lines}
 use Rattle.chip_device.specs.declared.device.Device.{Device}

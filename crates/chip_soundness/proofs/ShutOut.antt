@@ -19,7 +19,6 @@ use Rattle.front_side.specs.Side.{fresh_side}
 use Rattle.front.specs.declared.front.Front.{Front}
 use Rattle.front.specs.Front.{front_at, with_sides, with_timer, with_ports}
 use Rattle.front.specs.Sound.{front_in_range}
-use Rattle.receiver_state.specs.declared.arrivals.Receiver.{Receiver}
 use Rattle.receiver.specs.Sound.{receiver_in_range}
 use Rattle.chip_soundness.specs.Soundness.{receiver_sound}
 use Rattle.chip_soundness.proofs.Edges.{Edges}

@@ -1,7 +1,7 @@
 -- A test after the other: where one fails the answer is no, else the rest decides. Assumes nothing.
-use mathlib.Core.Path.{◌≡◌, refl}
-use mathlib.Core.Bool.{Bool, true, false, not, ◌&&◌}
-use borrow.Author.Tests.{le-leb, lt-leb, not-false, not-true}
+use mathlib.Core.Path.{◌≡◌}
+use mathlib.Core.Bool.{Bool, true, false, ◌&&◌}
+use borrow.Author.Tests.{le-leb, lt-leb}
 
 pub and_no : (a b : Bool) → a ≡ false → (a && b) ≡ false
 and_no a b e = rw e

@@ -1,6 +1,5 @@
 -- Document 01's own number for a run: "Timer on ticks, preload 2, start: ISR bit 3 after 4 ticks, not 3." With IMR bit 3 IRQ is asserted then. Assumes
 -- nothing.
-use Prim.Native.Nat.{ℕ}
 use mathlib.Core.Path.{◌≡◌, refl}
 use mathlib.Core.Bool.{true, false}
 use Rattle.timer_state.specs.declared.counting.Timer.{Timer}

@@ -4,7 +4,7 @@ use Prim.Native.Nat.{ℕ, zero, suc, ◌+◌, ◌-◌, ◌<◌, ◌≤◌, min}
 use mathlib.Core.Path.{◌≡◌, refl, sym, ◌∙◌, ap, subst}
 use mathlib.Core.Bool.{Bool, true, false, ◌&&◌, true≢false}
 use native.Mathlib.Omega.{arith}
-use lib.Dec.{eqb, ltb, eqb-suc-zero}
+use lib.Dec.{eqb-suc-zero}
 use borrow.Author.Tests.{lt-ltb, le-ltb}
 use Rattle.format.specs.Pick.{pick}
 use Rattle.dividers.proofs.Laws.Divider.{ticks_of}
@@ -13,7 +13,7 @@ use Rattle.chip_answers.specs.Answers.{no_lines}
 use Rattle.chip_device.specs.declared.device.Device.{Device}
 use Rattle.chip_device.specs.Device.{is_sound_of, device_lines}
 use Rattle.chip_step.specs.declared.chip.Answer.{Answer}
-use Rattle.chip_step.specs.Chip.{refusal_lines, refused_of, step_of}
+use Rattle.chip_step.specs.Chip.{refusal_lines, step_of}
 use Rattle.chip_fast.specs.Passing.{front_room, passed_of}
 use Rattle.chip_fast.specs.declared.fast.Hopped.{Hopped}
 use Rattle.chip_fast.specs.Fast.{at_rest, full_of, hop_of}

@@ -28,7 +28,7 @@ use Rattle.demands.specs.Chip.{Channel, of_channel, register_of}
 use Rattle.demands.specs.Chip.Channel.{A, B}
 use Rattle.demands.specs.Clocks.{front_then, side_of, clocks_of, pulsed_by}
 use Rattle.demands.specs.Pulses.{clocks}
-use Rattle.demands.specs.Loops.{receiver_of, txd_in}
+use Rattle.demands.specs.Loops.{txd_in}
 use Rattle.demands.specs.Echoing.{mode_on, echoes_on, Echoing}
 use Rattle.demands.proofs.Laws.Run.{receiver_at, step_receiver}
 use Rattle.demands.proofs.Laws.Fronts.{side_next, side_next_lem}

@@ -2,10 +2,9 @@
 -- induction over the events and of any chip, the two lists of what was read are one. Assumes nothing.
 use Prim.Native.Nat.{ℕ, zero, suc}
 use mathlib.Core.Path.{◌≡◌, refl, sym, ◌∙◌, ap}
-use mathlib.Core.Bool.{Bool, true, false}
-use mathlib.Core.List.{List, [], ◌∷◌, ◌++◌}
+use mathlib.Core.Bool.{false}
+use mathlib.Core.List.{List, [], ◌∷◌}
 use native.Mathlib.Omega.{arith}
-use lib.Dec.{eqb}
 use Rattle.format.specs.Pick.{pick}
 use Rattle.receiver.specs.Receiver.{fed_of}
 use Rattle.receiver.proofs.Delivery.{read_fresh}

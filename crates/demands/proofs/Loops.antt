@@ -1,7 +1,7 @@
 -- Order 2, local loopback: an event that leaves the mode registers makes the same of two fronts that differ in MR2 bits 7-6 alone, part by part; so
 -- their transmitters stay one, which the one's TxD shows and the other's receiver hears. Assumes nothing.
 use Prim.Native.Nat.{ℕ, ◌/◌, ◌%◌}
-use mathlib.Core.Path.{◌≡◌, refl, sym, ap, subst, ◌∙◌}
+use mathlib.Core.Path.{◌≡◌, refl, sym, ap, ◌∙◌}
 use mathlib.Core.Bool.{Bool, true, false, not, ◌&&◌, ◌||◌, true≢false, and-eq-true_iff}
 use mathlib.Core.List.{List, [], ◌∷◌}
 use native.Mathlib.Omega.{arith}

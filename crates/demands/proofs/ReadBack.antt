@@ -2,14 +2,13 @@
 -- receiver that finds a frame the read-back is proved. What a sender's pulses show is its frame. Assumes nothing.
 use Prim.Native.Nat.{ℕ}
 use mathlib.Core.Path.{◌≡◌, refl, sym, ap, ◌∙◌}
-use mathlib.Core.Bool.{Bool, true, false, not, ◌&&◌, ◌||◌, true≢false, and-eq-true_iff}
+use mathlib.Core.Bool.{Bool, true, false, not, ◌&&◌, true≢false, and-eq-true_iff}
 use mathlib.Core.List.{List, [], ◌∷◌, ◌++◌}
 use native.Mathlib.Omega.{arith}
 use lib.Dec.{eqb}
 use borrow.Author.Tests.{eqb-true}
 use lib.ListN.{length}
 use lib.Seq.{take-length}
-use Rattle.format.specs.Pick.{pick}
 use Rattle.format.specs.Format.{stop_code_of}
 use Rattle.format.specs.declared.format.Format.{Format}
 use Rattle.format.specs.Stop.{stop_length_of}

@@ -1,7 +1,8 @@
 -- Document 01's eleven cases, and order 2's: "One table, one statement, checked by the definitions": a row is a set-up,
 -- the events, what public answer to look at, and what it must be. Cases 3 to 6 look at what the frame request answers
 -- and writes. Assumes nothing.
-use Rattle.std.specs.Prelude.{ℕ, zero, suc, ◌+◌, ◌*◌, ◌≡◌, Bool, true, false, ◌&&◌, List, [], ◌∷◌, ◌++◌, eqb, get_or, replicate}
+use Rattle.std.specs.Prelude.{ℕ, zero, suc, ◌+◌, ◌*◌, ◌≡◌, Bool, true, false, ◌&&◌, List, [], ◌∷◌, ◌++◌, eqb, get_or}
+use Rattle.std.specs.Prelude.{replicate}
 use Rattle.std.specs.Int.Bits.{bit_and}
 use Rattle.format.specs.Pick.{pick}
 use Rattle.format.specs.Digits.{bit}

@@ -1,6 +1,7 @@
 -- Demand 2: ".. counter .. follow the Motorola manuals as document 01 fixes them.": the pulses of the counter/timer's
 -- clock in each of its eight modes, and what it does with them from a start on. Assumes nothing.
-use Rattle.std.specs.Prelude.{ℕ, suc, ◌+◌, ◌*◌, ◌-◌, ◌<◌, ◌/◌, ◌%◌, ◌≡◌, Bool, true, false, not, ◌&&◌, ◌||◌, List, [], ◌∷◌, ◌++◌, eqb, leb}
+use Rattle.std.specs.Prelude.{ℕ, suc, ◌+◌, ◌*◌, ◌-◌, ◌<◌, ◌/◌, ◌%◌, ◌≡◌, Bool, true, false, not, ◌&&◌, ◌||◌, List, []}
+use Rattle.std.specs.Prelude.{◌∷◌, ◌++◌, eqb, leb}
 use Rattle.format.specs.Pick.{pick}
 use Rattle.format.specs.Digits.{bit}
 use Rattle.byte_bits.specs.Bytes.{has_bit}

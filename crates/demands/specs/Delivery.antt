@@ -6,7 +6,8 @@
 -- is written from the events, the clock pulses (Pulses), in local loopback the transmitter run alone (Sending), and a
 -- sampler run alone (crate sampler_laws), and what was read and what is held from the answers. Order 1: "Demand 3 counts
 -- fresh reads, the same reads as before": these are by the flag; that they are the same is `Fresh`. Assumes nothing.
-use Rattle.std.specs.Prelude.{ℕ, zero, suc, ◌/◌, ◌%◌, ◌≡◌, Bool, false, not, ◌&&◌, ◌||◌, List, [], ◌∷◌, ◌++◌, map, eqb, replicate}
+use Rattle.std.specs.Prelude.{ℕ, zero, suc, ◌/◌, ◌%◌, ◌≡◌, Bool, false, not, ◌&&◌, ◌||◌, List, [], ◌∷◌, ◌++◌, map, eqb}
+use Rattle.std.specs.Prelude.{replicate}
 use Rattle.format.specs.Pick.{pick}
 use Rattle.format.specs.Format.{format_of}
 use Rattle.character.specs.declared.character.Character.{Character}

@@ -1,7 +1,8 @@
 -- "Crystal ticks, 16X pulses and whole bits are three counts the manual keeps apart.": when each side of a channel has
 -- its pulses, by the events and by what the program set. It is said of any way to tell it, and proved of the one that
 -- the demands speak of. Assumes nothing.
-use Rattle.std.specs.Prelude.{ℕ, suc, ◌+◌, ◌*◌, ◌<◌, ◌/◌, ◌%◌, ◌≡◌, Bool, true, false, not, ◌&&◌, List, [], ◌∷◌, ◌++◌, eqb}
+use Rattle.std.specs.Prelude.{ℕ, suc, ◌+◌, ◌*◌, ◌<◌, ◌/◌, ◌%◌, ◌≡◌, Bool, true, false, not, ◌&&◌, List, [], ◌∷◌, ◌++◌}
+use Rattle.std.specs.Prelude.{eqb}
 use Rattle.format.specs.Digits.{bit}
 use Rattle.format.specs.Pick.{pick}
 use Rattle.dividers.specs.Rates.{period_of}

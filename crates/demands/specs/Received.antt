@@ -1,6 +1,7 @@
 -- Demand 2: ".. received characters follow the Motorola manuals as document 01 fixes them.": what a program sees of a
 -- receiver beside the characters themselves, over any list of events after a chip reset. Assumes nothing.
-use Rattle.std.specs.Prelude.{ℕ, suc, ◌/◌, ◌%◌, ◌≡◌, Bool, true, false, ◌&&◌, ◌||◌, List, [], ◌∷◌, ◌++◌, eqb, leb, length}
+use Rattle.std.specs.Prelude.{ℕ, suc, ◌/◌, ◌%◌, ◌≡◌, Bool, true, false, ◌&&◌, ◌||◌, List, [], ◌∷◌, ◌++◌, eqb, leb}
+use Rattle.std.specs.Prelude.{length}
 use Rattle.format.specs.Pick.{pick}
 use Rattle.character.specs.declared.character.Marks.{Marks}
 use Rattle.character.specs.Character.{no_marks, or_marks}

@@ -1,7 +1,8 @@
 -- Demand 2: ".. sent levels .. follow the Motorola manuals as document 01 fixes them.": what the events bring to a
 -- channel's transmitter, and what is then seen of it: TxD, TxRDY and TxEMT, in all four modes (order 2). The
 -- transmitter is run alone, over its inputs; the laws of crate transmitter say what it does with them. Assumes nothing.
-use Rattle.std.specs.Prelude.{ℕ, ◌+◌, ◌<◌, ◌≤◌, ◌/◌, ◌%◌, ◌≡◌, Bool, true, false, not, ◌&&◌, ◌||◌, List, [], ◌∷◌, ◌++◌, eqb, length, get_or, take}
+use Rattle.std.specs.Prelude.{ℕ, ◌+◌, ◌<◌, ◌≤◌, ◌/◌, ◌%◌, ◌≡◌, Bool, true, false, not, ◌&&◌, ◌||◌, List, [], ◌∷◌, ◌++◌}
+use Rattle.std.specs.Prelude.{eqb, length, get_or, take}
 use Rattle.format.specs.Digits.{bit}
 use Rattle.format.specs.Pick.{pick}
 use Rattle.transmitter_state.specs.declared.sending.Standing.{Standing}
@@ -19,7 +20,8 @@ use Rattle.chip_answers.specs.declared.answers.Lines.{Lines}
 use Rattle.events.specs.declared.events.Event.{Event}
 use Rattle.events.specs.declared.events.Event.TheVariants.{ChipReset, Read, Write, Acknowledge, Pins, Tick}
 use Rattle.demands.specs.Chip.{Chip, Channel, of_channel, register_of, and_then, status_bit, lines_after}
-use Rattle.demands.specs.Told.{Programmed, levels_after, commands, programmed, in_normal, in_local, in_echo, mode_changes}
+use Rattle.demands.specs.Told.{Programmed, levels_after, commands, programmed, in_normal, in_local, in_echo}
+use Rattle.demands.specs.Told.{mode_changes}
 use Rattle.demands.specs.Clocks.{pulsed_after}
 use Rattle.demands.specs.Pulses.{clocks}
 

@@ -14,7 +14,6 @@ use Rattle.events.specs.declared.events.Event.{Event}
 use Rattle.events.specs.declared.events.Event.TheVariants.{ChipReset, Read, Write, Acknowledge, Pins, Tick}
 use Rattle.chip_device.specs.declared.device.Device.{Device}
 use Rattle.chip_device.specs.Device.{device_lines}
-use Rattle.chip_step.specs.declared.chip.Answer.{Answer}
 use Rattle.chip_step.specs.Chip.{step_of}
 use Rattle.chip_laws.specs.Sound.{after}
 use Rattle.chip_laws.specs.Reset.{reset_at}
@@ -23,7 +22,6 @@ use Rattle.chip_ticks.specs.declared.until_irq.Ran.{Ran}
 use Rattle.chip_ticks.specs.Ticks.{spent_of}
 use Rattle.chip_ticks.specs.Run.{run_refusal, run_of}
 use Rattle.records.specs.declared.records.EventRecord.{EventRecord}
-use Rattle.records.specs.declared.records.Seen.{Seen}
 use Rattle.records.specs.Records.{event_of}
 use Rattle.poll.specs.Step.{single_of}
 use Rattle.poll.specs.Poll.{seen_in, polled_of, answers_after}

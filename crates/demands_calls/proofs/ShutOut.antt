@@ -1,11 +1,10 @@
 -- Wrong boards, each right but for one fault, and refuted by the statement. Assumes nothing.
 use Prim.Native.Nat.{ℕ, ◌-◌}
-use mathlib.Core.Path.{◌≡◌, ap}
+use mathlib.Core.Path.{ap}
 use mathlib.Core.Bool.{false}
 use mathlib.Core.List.{List, [], ◌∷◌, ◌++◌, map}
 use native.Mathlib.Omega.{arith}
 use lib.ListN.{length}
-use Rattle.events.specs.declared.events.Event.{Event}
 use Rattle.events.specs.declared.events.Event.TheVariants.{Read, Write}
 use Rattle.chip_device.specs.declared.device.Device.{Device}
 use Rattle.chip_step.specs.Chip.{step_of}

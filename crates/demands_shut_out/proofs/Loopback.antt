@@ -19,7 +19,6 @@ use Rattle.front_side.specs.Side.{with_echo}
 use Rattle.front.specs.Front.{with_sides}
 use Rattle.events.specs.declared.events.Event.{Event}
 use Rattle.events.specs.declared.events.Event.TheVariants.{Write, Pins}
-use Rattle.chip_answers.specs.declared.answers.Lines.{Lines}
 use Rattle.chip_device.specs.declared.device.Device.{Device}
 use Rattle.chip_step.specs.declared.chip.Answer.{Answer}
 use Rattle.chip_step.specs.Chip.{step_of}

@@ -1,6 +1,5 @@
 -- Polls computed: what is accepted, written, counted and refused, in order 5's own numbers. A poll that refused every call, or did nothing, would meet
 -- each refutation of `ShutOut`, and none of these. Assumes nothing.
-use Prim.Native.Nat.{ℕ}
 use mathlib.Core.Path.{◌≡◌, refl}
 use Rattle.chip_device.specs.Device.{fresh_device}
 use Rattle.chip_device.proofs.Examples.{five_flags}

@@ -1,7 +1,7 @@
 -- Wrong polls, each shut out by a definition: a routine that gave it would not meet its contract. The list is a read of register 2, which is refused
 -- ("3: read of register 2 or 10"), between two ticks. Assumes nothing.
 use Prim.Native.Nat.{ℕ}
-use mathlib.Core.Path.{◌≡◌, ap}
+use mathlib.Core.Path.{◌≡◌}
 use mathlib.Core.Bool.{true, false}
 use mathlib.Core.List.{List, [], ◌∷◌}
 use native.Mathlib.Omega.{arith}

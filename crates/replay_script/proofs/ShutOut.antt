@@ -1,7 +1,7 @@
 -- Wrong answers, each shut out by a definition: a routine that gave it would not meet its contract. Assumes nothing.
 use Prim.Native.Nat.{ℕ, ◌+◌}
 use mathlib.Core.Path.{◌≡◌}
-use mathlib.Core.Bool.{◌&&◌, ◌||◌, true≢false, false≢true}
+use mathlib.Core.Bool.{◌||◌, false≢true}
 use native.Mathlib.Omega.{arith}
 use lib.Dec.{eqb, ltb}
 use Rattle.format.specs.Pick.{pick}

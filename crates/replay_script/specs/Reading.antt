@@ -1,5 +1,5 @@
 -- What is known of a line, byte by byte. Assumes nothing.
-use Rattle.std.specs.Prelude.{ℕ, ◌+◌, ◌-◌, ◌*◌, Bool, true, false, List, [], ◌∷◌, eqb, ltb, leb}
+use Rattle.std.specs.Prelude.{ℕ, ◌+◌, ◌*◌, Bool, true, false, List, [], ◌∷◌, eqb, ltb}
 use Rattle.format.specs.Pick.{pick}
 use Rattle.replay_script.specs.declared.reading.Reading.{Reading}
 use Rattle.text.specs.Numbers.{number_after}

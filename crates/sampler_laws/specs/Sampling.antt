@@ -1,7 +1,8 @@
 -- Demand 3's arrivals "come from the sampling rule": the rule said by the pulses that are looked at, apart from how a
 -- sampler keeps count of them. Level i of a list is the line's at pulse p+1+i. Said of any way to put characters
 -- together from what is heard after a high. Assumes nothing.
-use Rattle.std.specs.Prelude.{ℕ, zero, suc, ◌+◌, ◌*◌, ◌≤◌, ◌<◌, ◌≡◌, Bool, true, false, not, ◌&&◌, List, [], ◌∷◌, ◌++◌, map, eqb, length, get_or, replicate}
+use Rattle.std.specs.Prelude.{ℕ, zero, suc, ◌+◌, ◌*◌, ◌≤◌, ◌<◌, ◌≡◌, Bool, true, false, not, ◌&&◌, List, [], ◌∷◌, ◌++◌}
+use Rattle.std.specs.Prelude.{map, eqb, length, get_or, replicate}
 use Rattle.format.specs.Pick.{pick}
 use Rattle.format.specs.Digits.{bit, value_of}
 use Rattle.format.specs.declared.format.Format.{Format}

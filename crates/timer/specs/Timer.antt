@@ -5,7 +5,8 @@ use Rattle.format.specs.Pick.{pick}
 use Rattle.dividers.specs.Divider.{divided_of, sixteenth_of}
 use Rattle.timer_state.specs.declared.counting.Counted.{Counted}
 use Rattle.timer_state.specs.declared.counting.Timer.{Timer}
-use Rattle.timer_state.specs.Counting.{with_count, with_running, with_ready, with_phases, mode_of, is_timer, tick_pulses}
+use Rattle.timer_state.specs.Counting.{with_count, with_running, with_ready, with_phases, mode_of, is_timer}
+use Rattle.timer_state.specs.Counting.{tick_pulses}
 use Rattle.timer_state.specs.Counting.{edge_pulses, transmitter_pulses, pulsed_by}
 
 -- a tick: "Both /16 phases always run"

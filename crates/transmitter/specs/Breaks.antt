@@ -9,7 +9,8 @@ use Rattle.transmitter_state.specs.State.{in_break, after_break, with_left, with
 use Rattle.transmitter_state.specs.Sending.{can_start, break_begun, idle_of}
 use Rattle.transmitter.specs.declared.transmitter.Input.{Input}
 use Rattle.transmitter.specs.declared.transmitter.Input.TheVariants.{Nothing, Pulse, Write, Enable, Disable}
-use Rattle.transmitter.specs.declared.transmitter.Input.TheVariants.{StartBreak, StopBreak, Reset, ChipReset, ModeChange}
+use Rattle.transmitter.specs.declared.transmitter.Input.TheVariants.{StartBreak, StopBreak, Reset, ChipReset}
+use Rattle.transmitter.specs.declared.transmitter.Input.TheVariants.{ModeChange}
 use Rattle.transmitter.specs.Commands.{high_after}
 use Rattle.transmitter.specs.Frames.{Step, after, pulses_in, all_of, free}
 

@@ -1,7 +1,8 @@
 -- What is owed of a transmitter over any list of inputs, said of any way `step` to take an input, so that it can be
 -- proved of one and proved false of others: a character that can start does start, and TxD then has the levels of its
 -- frame, one a pulse. Assumes nothing.
-use Rattle.std.specs.Prelude.{ℕ, suc, ◌-◌, ◌<◌, ◌≡◌, Bool, true, false, not, ◌&&◌, List, [], ◌∷◌, ◌++◌, eqb, ltb, leb, length, get_or, replicate}
+use Rattle.std.specs.Prelude.{ℕ, suc, ◌-◌, ◌<◌, ◌≡◌, Bool, true, false, not, ◌&&◌, List, [], ◌∷◌, ◌++◌, eqb, ltb, leb}
+use Rattle.std.specs.Prelude.{length, get_or, replicate}
 use Rattle.format.specs.Pick.{pick}
 use Rattle.format.specs.Format.{format_of, stop_code_of}
 use Rattle.frame.specs.Levels.{frame}
@@ -11,7 +12,8 @@ use Rattle.transmitter_state.specs.State.{sending, in_break, after_break, with_h
 use Rattle.transmitter_state.specs.Sending.{clear_to_send, can_start, idle_of}
 use Rattle.transmitter.specs.declared.transmitter.Input.{Input}
 use Rattle.transmitter.specs.declared.transmitter.Input.TheVariants.{Nothing, Pulse, Write, Enable, Disable}
-use Rattle.transmitter.specs.declared.transmitter.Input.TheVariants.{StartBreak, StopBreak, Reset, ChipReset, ModeChange}
+use Rattle.transmitter.specs.declared.transmitter.Input.TheVariants.{StartBreak, StopBreak, Reset, ChipReset}
+use Rattle.transmitter.specs.declared.transmitter.Input.TheVariants.{ModeChange}
 use Rattle.transmitter.specs.Status.{shifter_empty}
 
 -- ---- lists of inputs ----

@@ -1,7 +1,8 @@
 -- What each input but a pulse does, and that it does no more, said of any way `step` to take one. Assumes nothing.
 use Rattle.std.specs.Prelude.{ℕ, ◌≡◌, true, false, eqb}
 use Rattle.transmitter_state.specs.declared.state.Transmitter.{Transmitter}
-use Rattle.transmitter_state.specs.State.{in_break, after_break, fresh_transmitter, with_enabled, with_holding, with_asked}
+use Rattle.transmitter_state.specs.State.{in_break, after_break, fresh_transmitter, with_enabled, with_holding}
+use Rattle.transmitter_state.specs.State.{with_asked}
 use Rattle.transmitter.specs.declared.transmitter.Input.TheVariants.{Nothing, Write, Enable, Disable, StartBreak}
 use Rattle.transmitter.specs.declared.transmitter.Input.TheVariants.{StopBreak, Reset, ChipReset, ModeChange}
 use Rattle.transmitter.specs.Status.{shifter_empty}

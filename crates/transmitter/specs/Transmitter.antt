@@ -4,7 +4,8 @@ use Rattle.transmitter_state.specs.State.{fresh_transmitter}
 use Rattle.transmitter_state.specs.Sending.{pulsed_of}
 use Rattle.transmitter.specs.declared.transmitter.Input.{Input}
 use Rattle.transmitter.specs.declared.transmitter.Input.TheVariants.{Nothing, Pulse, Write, Enable, Disable}
-use Rattle.transmitter.specs.declared.transmitter.Input.TheVariants.{StartBreak, StopBreak, Reset, ChipReset, ModeChange}
+use Rattle.transmitter.specs.declared.transmitter.Input.TheVariants.{StartBreak, StopBreak, Reset, ChipReset}
+use Rattle.transmitter.specs.declared.transmitter.Input.TheVariants.{ModeChange}
 use Rattle.transmitter.specs.Commands.{written_of, enabled_of, break_ended, disabled_of, reset_of, break_asked}
 use Rattle.transmitter.specs.Commands.{sending_dropped}
 

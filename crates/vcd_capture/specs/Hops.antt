@@ -7,7 +7,6 @@ use Rattle.sampler_state.specs.declared.state.Sampler.{Sampler}
 use Rattle.sampler_hunting.specs.declared.hunting.Came.TheVariants.{NoCharacter}
 use Rattle.sampler_hunting.specs.declared.hunting.Sampled.{Sampled}
 use Rattle.sampler.specs.Lines.{after_lines, list_of, arrivals}
-use Rattle.sampler.specs.Lines as Hearing
 use Rattle.vcd_capture.specs.declared.hops.Hopped.{Hopped}
 use Rattle.vcd_capture.specs.Ear.{pulses_at}
 

@@ -1,24 +1,12 @@
 -- Wrong answers and spaces, shut out by the definitions: a routine that gave them would not meet its contract. An empty list on the fresh device
 -- has a text of 372 bytes, its first a `$`, 36. Assumes nothing.
-use Prim.Native.Nat.{ℕ}
-use mathlib.Core.Path.{◌≡◌, ap}
-use mathlib.Core.Bool.{true, false}
-use mathlib.Core.List.{List, [], ◌∷◌}
+use mathlib.Core.Path.{◌≡◌}
+use mathlib.Core.List.{[], ◌∷◌}
 use native.Mathlib.Omega.{arith}
 use lib.ListN.{length, get_or, replicate}
-use Rattle.format.specs.Pick.{pick}
-use Rattle.format.specs.Digits.{digit_of, bits_of}
-use Rattle.chip_device.specs.declared.device.Device.{Device}
 use Rattle.chip_device.specs.Device.{fresh_device}
 use Rattle.chip_device.proofs.Examples.{five_flags}
 use Rattle.chip_laws.proofs.Computing.{computing}
-use Rattle.chip_fast.specs.Fast.{is_tick}
-use Rattle.records.specs.Records.{event_of}
-use Rattle.text.specs.Bytes.{bytes_of}
-use Rattle.text.specs.Decimal.{decimal_of}
-use Rattle.vcd_text.specs.Header.{line_of, Wire, wire_line, wire_lines, header_of, wires_from, chip_wires}
-use Rattle.vcd_text.specs.Changes.{value_lines, at_time, waves_text, dump_text}
-use Rattle.vcd_dump.specs.Waves.{values_of, records_of, waves_from}
 use Rattle.vcd_dump.specs.Dump.{text_of, dump_refusal, dumped_of, space_after}
 use Rattle.vcd_dump.proofs.Computing.{dumping}
 

@@ -1,18 +1,16 @@
 -- The level of a wire at a time: a time's own lines leave it at the value of that time, and later ones do not count. By induction on the times, and
 -- on the wires of one. Assumes nothing.
 use Prim.Native.Nat.{ℕ, zero, suc, ◌+◌, ◌≤◌, ◌<◌}
-use mathlib.Core.Path.{◌≡◌, refl, sym, ◌∙◌, ap}
-use mathlib.Core.Bool.{Bool, true, false, not}
+use mathlib.Core.Path.{◌≡◌, refl, sym, ◌∙◌}
+use mathlib.Core.Bool.{Bool, true, false}
 use mathlib.Core.List.{List, [], ◌∷◌, ◌++◌}
 use native.Mathlib.Omega.{arith}
-use lib.Dec.{eqb, leb}
 use lib.ListN.{length, get_or}
 use borrow.Author.Tests.{eq-eqb, ne_eqb, le-leb, lt-leb}
 use Rattle.format.specs.Pick.{pick}
 use Rattle.vcd_text.specs.Time.{time_of}
-use Rattle.vcd_text.specs.Changes.{differ}
 use Rattle.vcd_text.specs.Lines.{Line, level_at}
-use Rattle.vcd_text.specs.Lines.Line.{Time, Value}
+use Rattle.vcd_text.specs.Lines.Line.{Value}
 use Rattle.vcd_laws.proofs.Lines.{changes_of, timed, lines_of}
 use Rattle.vcd_laws.proofs.Values.{Eleven}
 

@@ -1,18 +1,14 @@
 -- The lines of a text, in the order that the definition writes them: as text they are that text; their times rise, the values of a wire change,
 -- and at each time a wire has its value of that time. By induction on the times, and on the wires of one. Assumes nothing.
-use Prim.Native.Nat.{ℕ, zero, suc, ◌+◌, ◌≤◌, ◌<◌}
+use Prim.Native.Nat.{ℕ, suc, ◌≤◌}
 use mathlib.Core.Path.{◌≡◌, refl, sym, ◌∙◌, ap}
-use mathlib.Core.Bool.{Bool, true, false, not}
+use mathlib.Core.Bool.{Bool, true, false}
 use mathlib.Core.List.{List, [], ◌∷◌, ◌++◌, append_assoc}
 use native.Mathlib.Omega.{arith}
-use lib.Dec.{eqb, leb}
-use lib.ListN.{length, get_or}
-use borrow.Author.Tests.{eq-eqb, ne_eqb, le-leb, lt-leb}
 use Rattle.format.specs.Pick.{pick}
-use Rattle.format.proofs.Laws.Pick.{pick_yes, pick_no}
 use Rattle.vcd_text.specs.Time.{time_of}
 use Rattle.vcd_text.specs.Changes.{differ, value_lines, at_time, waves_text}
-use Rattle.vcd_text.specs.Lines.{Line, line_text, lines_text, level_at, times_of, RisesFrom, values_on}
+use Rattle.vcd_text.specs.Lines.{Line, line_text, lines_text, times_of, RisesFrom}
 use Rattle.vcd_text.specs.Lines.Line.{Time, Value}
 use Rattle.vcd_laws.specs.Shows.{OnlyChanges, CodesFrom}
 use Rattle.vcd_laws.proofs.Times.{time_rises, rises_later}

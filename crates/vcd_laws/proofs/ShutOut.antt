@@ -2,11 +2,10 @@
 -- low by a write of 1 to register 14. Assumes nothing.
 use Prim.Native.Nat.{ℕ, suc, ◌+◌, ◌-◌, ◌*◌, ◌/◌}
 use mathlib.Core.Path.{◌≡◌, refl, sym, ◌∙◌, ap}
-use mathlib.Core.Bool.{Bool, true, false, not, true≢false, false≢true}
+use mathlib.Core.Bool.{Bool, true, false, true≢false, false≢true}
 use mathlib.Core.List.{List, [], ◌∷◌, ◌++◌, map}
 use native.Mathlib.Omega.{arith}
 use lib.ListN.{length, take, replicate, length-append}
-use lib.Dec.{eqb}
 use Rattle.format.specs.Pick.{pick}
 use Rattle.format.specs.Digits.{bits_of}
 use Rattle.events.specs.declared.events.Event.{Event}
@@ -19,7 +18,6 @@ use Rattle.chip_laws.specs.Sound.{after}
 use Rattle.chip_laws.proofs.Computing.{computing}
 use Rattle.chip_fast.specs.Fast.{is_tick}
 use Rattle.vcd_text.specs.Time.{time_of}
-use Rattle.vcd_text.specs.Changes.{differ}
 use Rattle.vcd_text.specs.Lines.{Line, level_at, times_of, RisesFrom, values_on}
 use Rattle.vcd_text.specs.Lines.Line.{Time, Value}
 use Rattle.vcd_dump.specs.Waves.{values_of, waves_from}

@@ -1,7 +1,8 @@
 -- A whole text: whether it is in the subset, its wires, its lines and their times. Order 7: "Read order 6's header for 1 to
 -- 16 wires .., then times up to 4,000,000,000 ns, no leading zeros, each with any value lines of those codes". Assumes
 -- nothing.
-use Rattle.std.specs.Prelude.{ℕ, ◌+◌, Bool, true, false, not, ◌&&◌, ◌||◌, List, [], ◌∷◌, ◌++◌, eqb, ltb, leb, length, drop, get_or}
+use Rattle.std.specs.Prelude.{ℕ, ◌+◌, Bool, true, false, ◌&&◌, ◌||◌, List, [], ◌∷◌, ◌++◌, eqb, ltb, leb, length, drop}
+use Rattle.std.specs.Prelude.{get_or}
 use Rattle.format.specs.Pick.{pick}
 use Rattle.vcd_text.specs.Header.{Wire, line_of}
 use Rattle.vcd_text.specs.Lines.{Line}

@@ -1,6 +1,7 @@
 -- The wires of a header. Order 7: "1 to 16 wires (names of 1 to 32 characters and one-character codes, ! to ~, each once)".
 -- A text is looked at from some place on. Assumes nothing.
-use Rattle.std.specs.Prelude.{ℕ, zero, suc, ◌+◌, Bool, true, false, ◌&&◌, ◌||◌, List, [], ◌∷◌, eqb, ltb, length, drop, get_or, set}
+use Rattle.std.specs.Prelude.{ℕ, zero, suc, ◌+◌, Bool, true, false, ◌&&◌, ◌||◌, List, [], ◌∷◌, eqb, ltb, length, drop}
+use Rattle.std.specs.Prelude.{get_or, set}
 use Rattle.format.specs.Pick.{pick}
 use Rattle.text.specs.Bytes.{bytes_of}
 use Rattle.vcd_text.specs.Header.{Wire, line_of}

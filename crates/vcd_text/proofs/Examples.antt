@@ -1,15 +1,14 @@
 -- Order 6's own numbers, and those of its readings. Each is computed. Assumes nothing.
-use Prim.Native.Nat.{ℕ}
 use mathlib.Core.Path.{◌≡◌, refl}
-use mathlib.Core.Bool.{Bool, true, false}
-use mathlib.Core.List.{List, [], ◌∷◌, ◌++◌}
-use lib.ListN.{length, take, drop, replicate}
+use mathlib.Core.Bool.{true}
+use mathlib.Core.List.{[], ◌∷◌, ◌++◌}
+use lib.ListN.{length, replicate}
 use Rattle.format.specs.Pick.{pick}
 use Rattle.format.specs.Digits.{digit_of}
 use Rattle.text.specs.Bytes.{bytes_of}
 use Rattle.text.specs.Decimal.{decimal_of}
 use Rattle.vcd_text.specs.Time.{time_of}
-use Rattle.vcd_text.specs.Header.{line_of, Wire, wire_line, wire_lines, header_of, wires_from, chip_wires}
+use Rattle.vcd_text.specs.Header.{line_of, wire_line, wire_lines, header_of, wires_from, chip_wires}
 use Rattle.vcd_text.specs.Changes.{value_lines, at_time, waves_text, dump_text}
 use Rattle.vcd_text.specs.Lines.{line_text}
 

@@ -2,7 +2,7 @@
 use Prim.Native.Nat.{ℕ, ◌+◌, ◌*◌, ◌/◌}
 use mathlib.Core.Path.{◌≡◌, ap}
 use mathlib.Core.Bool.{Bool, true, false}
-use mathlib.Core.List.{List, [], ◌∷◌, ◌++◌}
+use mathlib.Core.List.{List, [], ◌∷◌}
 use native.Mathlib.Omega.{arith}
 use lib.ListN.{length, get_or, replicate}
 use Rattle.format.specs.Pick.{pick}
@@ -10,7 +10,7 @@ use Rattle.format.specs.Digits.{digit_of}
 use Rattle.text.specs.Bytes.{bytes_of}
 use Rattle.text.specs.Decimal.{decimal_of}
 use Rattle.vcd_text.specs.Time.{time_of}
-use Rattle.vcd_text.specs.Header.{line_of, Wire, wire_line, wire_lines, header_of, wires_from, chip_wires}
+use Rattle.vcd_text.specs.Header.{line_of, wire_line, wire_lines, wires_from}
 use Rattle.vcd_text.specs.Changes.{time_line, value_line, value_lines, at_time, waves_text}
 use Rattle.vcd_text.specs.Lines.{line_text}
 

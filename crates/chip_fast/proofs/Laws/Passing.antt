@@ -1,8 +1,8 @@
 -- A tick within the room: each clock and the counter/timer by its own law, so the front only moves its phases and the count, hands nothing
 -- on, and no line changes. Then many ticks, one after the other. Assumes nothing.
-use Prim.Native.Nat.{ℕ, zero, suc, ◌+◌, ◌/◌, ◌%◌, ◌^◌, ◌<◌, ◌≤◌, min}
-use mathlib.Core.Path.{◌≡◌, refl, sym, ◌∙◌, ap}
-use mathlib.Core.Bool.{Bool, true, false, not, ◌&&◌, ◌||◌, and-eq-true_iff}
+use Prim.Native.Nat.{ℕ, zero, suc, ◌/◌, ◌<◌, min}
+use mathlib.Core.Path.{◌≡◌, refl, sym, ap}
+use mathlib.Core.Bool.{Bool, true, false, not, ◌&&◌, ◌||◌}
 use native.Mathlib.Omega.{arith}
 use lib.Dec.{eqb, ltb, eqb-suc-zero}
 use borrow.Author.Tests.{lt-ltb, le-ltb}
@@ -10,12 +10,11 @@ use Rattle.format.specs.Pick.{pick}
 use Rattle.byte_bits.specs.Bytes.{has_bit}
 use Rattle.format.specs.declared.counts.Ticks.{Ticks}
 use Rattle.dividers.proofs.Laws.Divider.{ticks_of}
-use Rattle.clocks.specs.Channel.{side_room}
 use Rattle.clocks.proofs.Laws.Passing.{channel_passes}
 use Rattle.timer_state.specs.declared.counting.Timer.{Timer}
 use Rattle.timer_state.specs.Counting.{with_count, with_phases, mode_of, pulsed_by}
 use Rattle.timer.specs.Timer.{transmitted_by}
-use Rattle.timer.specs.Passing.{timer_room, timer_passed}
+use Rattle.timer.specs.Passing.{timer_passed}
 use Rattle.timer.proofs.Laws.Passing.{timer_passes}
 use Rattle.inputs.specs.Inputs.{pins_of_a, pins_of_b}
 use Rattle.feed.specs.declared.feed.Feed.TheVariants.{Nothing}
@@ -27,7 +26,6 @@ use Rattle.front_side_clocks.proofs.Laws.Hears.{hears_nothing}
 use Rattle.front.specs.declared.front.Front.{Front}
 use Rattle.front.specs.Front.{with_sides}
 use Rattle.front_clocks.specs.Clocking.{counted_of, clocked_with, clocked_of as front_clocked, ticked_of}
-use Rattle.events.specs.declared.events.Event.TheVariants.{Tick}
 use Rattle.front_events.specs.FrontEvents.{front_stepped}
 use Rattle.chip_device.specs.declared.device.Device.{Device}
 use Rattle.chip_device.specs.Device.{device_lines}

@@ -1,6 +1,6 @@
 -- The answer to a tick: no row but the first refuses one, and a sound device's is accepted; so the short ways of a sound device are the step. Assumes
 -- nothing.
-use Prim.Native.Nat.{ℕ, ◌/◌, ◌%◌, ◌<◌}
+use Prim.Native.Nat.{ℕ, ◌<◌}
 use mathlib.Core.Path.{◌≡◌, refl, sym, ◌∙◌, ap}
 use mathlib.Core.Bool.{Bool, true, false, not, true≢false, and-eq-true_iff}
 use native.Mathlib.Omega.{arith}

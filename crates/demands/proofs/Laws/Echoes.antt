@@ -26,7 +26,7 @@ use Rattle.chip_answers.specs.Answers.{lines_of}
 use Rattle.chip_step.specs.Chip.{step_of}
 use Rattle.demands.specs.Chip.{Channel, chip_of, register_of, and_then, over}
 use Rattle.demands.specs.Chip.Channel.{A, B}
-use Rattle.demands.specs.Told.{levels_then, programmed, mode_bits, in_normal, in_echo, in_local}
+use Rattle.demands.specs.Told.{levels_then, programmed, mode_bits, in_normal, in_local}
 use Rattle.demands.specs.Clocks.{front_then, front_after, side_of, clocks_of, pulsed_by}
 use Rattle.demands.specs.Sending.{inputs_at, inputs_from, sender_after, raises, echo_then, echo_from, echo_after, shown_level, txd_after, keeps_sending, keeps_from, sent_from}
 use Rattle.demands.proofs.Laws.Run.{run_front}

@@ -1,6 +1,6 @@
 -- What loads the counter/timer, a start or a change of its mode, leaves it as a start leaves one with the same preload, the same ISR bit 3 and, for
 -- a change, the output high; and what leaves it alone then brings it where crate timer's theorems say, by the pulses since. Assumes nothing.
-use Prim.Native.Nat.{ℕ, zero, suc, ◌+◌, ◌*◌, ◌-◌, ◌<◌, ◌%◌}
+use Prim.Native.Nat.{ℕ, zero, suc, ◌+◌, ◌*◌, ◌<◌, ◌%◌}
 use mathlib.Core.Path.{◌≡◌, refl, sym, ◌∙◌, ap}
 use mathlib.Core.Bool.{true, false, not, ◌||◌, or-false, and-eq-true_iff, true≢false}
 use mathlib.Core.List.{List, [], ◌∷◌, ◌++◌, append_assoc}

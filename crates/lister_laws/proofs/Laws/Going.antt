@@ -7,7 +7,7 @@ use native.Mathlib.Omega.{arith}
 use Rattle.format.specs.Pick.{pick}
 use Rattle.inputs.specs.declared.inputs.ChannelPins.{ChannelPins}
 use Rattle.inputs.specs.Inputs.{pins_of_a}
-use Rattle.clocks.specs.Channel as inClocks
+use Rattle.clocks.specs.Channel as in_clocks
 use Rattle.front_side.specs.declared.side.Side.{Side}
 use Rattle.front_modes.specs.Modes.{txd_of}
 use Rattle.front_side.specs.Side.{buffer_written}
@@ -51,7 +51,7 @@ side_more (suc m) n s =
 -- code 11 is below 13, "the timer's toggle to high"
 untimed : (s : Side) (pins : ChannelPins) (toggled : Bool) → s.csr ≡ 187
     → (side_clocked s false pins true toggled).side ≡ (side_clocked s false pins true false).side
-unfolding side_clocked inClocks.clocked_of inClocks.side_of pick
+unfolding side_clocked in_clocks.clocked_of in_clocks.side_of pick
 untimed s pins toggled e = rw e
 
 keeps_code : (s : Side) → (side_tick s).csr ≡ s.csr

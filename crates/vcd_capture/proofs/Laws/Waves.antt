@@ -11,8 +11,7 @@ use Rattle.format.specs.Pick.{pick}
 use Rattle.feed.specs.declared.feed.Setting.{Setting}
 use Rattle.character.specs.declared.character.Character.{Character}
 use Rattle.sampler_state.specs.declared.state.Sampler.{Sampler}
-use Rattle.sampler.specs.Lines.{hears, after_lines, arrivals}
-use Rattle.sampler.specs.Lines as Hearing
+use Rattle.sampler.specs.Lines.{after_lines, arrivals}
 use Rattle.vcd_text.specs.Time.{time_of}
 use Rattle.vcd_text.specs.Lines.{Line, lines_text, level_at}
 use Rattle.vcd_text.specs.Lines.Line.{Time, Value}

@@ -1,8 +1,7 @@
 -- A list of bytes as records: the first is made of the first three bytes, and there are as many as three goes into the length. By
 -- induction on the list, three bytes at a time. Assumes nothing.
 use Prim.Native.Nat.{ℕ, zero, suc, ◌+◌, ◌*◌, ◌/◌, ◌<◌}
-use mathlib.Core.Path.{◌≡◌, refl, sym, ◌∙◌, ap}
-use mathlib.Core.Bool.{Bool, true, false}
+use mathlib.Core.Path.{◌≡◌, refl, ◌∙◌, ap}
 use mathlib.Core.List.{List, [], ◌∷◌}
 use native.Mathlib.Omega.{arith}
 use lib.Dec.{eqb}
@@ -10,7 +9,6 @@ use lib.ListN.{length, drop, get_or, length-drop, length-map}
 use lib.Seq.{drop-cons}
 use borrow.Author.Tests.{ne_eqb}
 use Rattle.format.specs.Pick.{pick}
-use Rattle.events.specs.declared.events.Event.{Event}
 use Rattle.chip_fast.specs.Fast.{is_tick}
 use Rattle.records.specs.declared.records.EventRecord.{EventRecord}
 use Rattle.records.specs.Records.{event_of}

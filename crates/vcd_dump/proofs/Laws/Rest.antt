@@ -9,12 +9,9 @@ use lib.Dec.{eqb}
 use borrow.Author.Tests.{eq-eqb, ne_eqb}
 use Rattle.format.specs.Pick.{pick}
 use Rattle.format.specs.Digits.{bits_of, value_of}
-use Rattle.format.proofs.Laws.Pick.{pick_yes, pick_no}
 use Rattle.events.specs.declared.events.Event.{Event}
-use Rattle.chip_answers.specs.declared.answers.Lines.{Lines}
 use Rattle.chip_device.specs.declared.device.Device.{Device}
 use Rattle.chip_device.specs.Device.{device_lines}
-use Rattle.chip_step.specs.declared.chip.Answer.{Answer}
 use Rattle.chip_step.specs.Chip.{step_of, number_of, taken_of, accepted_of, refused_of}
 use Rattle.chip_fast.specs.Fast.{is_tick}
 use Rattle.vcd_text.specs.Header.{header_of, chip_wires}

@@ -10,22 +10,19 @@ use lib.ListN.{length, drop}
 use Rattle.format.specs.Pick.{pick}
 use Rattle.format.specs.Digits.{value_of}
 use Rattle.format.proofs.Laws.Pick.{pick_all}
-use Rattle.events.specs.declared.events.Event.{Event}
 use Rattle.chip_answers.specs.declared.answers.Lines.{Lines}
 use Rattle.chip_device.specs.declared.device.Device.{Device}
 use Rattle.chip_device.specs.Device.{is_sound_of, device_lines}
 use Rattle.chip_step.specs.declared.chip.Answer.{Answer}
 use Rattle.chip_step.specs.Chip.{step_of}
-use Rattle.chip_fast.specs.Fast.{is_tick}
 use Rattle.chip_laws.proofs.Lists.{step_sound}
 use Rattle.records.specs.declared.records.EventRecord.{EventRecord}
 use Rattle.records.specs.Records.{event_of}
 use Rattle.text.specs.Puts.{Puts}
 use Rattle.text.proofs.Laws.Puts.{puts_length, Left, left_as, left_then, left_last}
-use Rattle.vcd_text.specs.Words.{changes_text}
 use Rattle.vcd_text.proofs.Laws.Words.{changes_within}
 use Rattle.vcd_dump.specs.declared.waves.Wave.{Wave}
-use Rattle.vcd_dump.specs.Waves.{values_of, records_of, events_of}
+use Rattle.vcd_dump.specs.Waves.{values_of, events_of}
 use Rattle.vcd_dump.specs.Wave.{record_at, end_text, wave_after, Adds, rest_of}
 use Rattle.vcd_dump.proofs.Laws.Records.{next_record, no_record, record_ticks}
 use Rattle.vcd_dump.proofs.Laws.Values.{values_small}

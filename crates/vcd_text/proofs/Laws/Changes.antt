@@ -1,12 +1,11 @@
 -- The lines of a time. Assumes nothing.
-use Prim.Native.Nat.{ℕ, zero, suc, ◌+◌, ◌*◌, ◌≤◌}
-use mathlib.Core.Path.{◌≡◌, refl, ap, ◌∙◌}
-use mathlib.Core.Bool.{Bool, true, false, not}
-use mathlib.Core.List.{List, [], ◌∷◌, ◌++◌, append-nil}
+use Prim.Native.Nat.{ℕ, suc, ◌+◌, ◌*◌, ◌≤◌}
+use mathlib.Core.Path.{◌≡◌, refl, ap}
+use mathlib.Core.Bool.{Bool, true, false}
+use mathlib.Core.List.{List, [], ◌∷◌, ◌++◌}
 use native.Mathlib.Omega.{arith}
 use lib.ListN.{length, length-append}
 use Rattle.format.specs.Pick.{pick}
-use Rattle.text.specs.Decimal.{decimal_of}
 use Rattle.text.proofs.Laws.Decimal.{decimal_within}
 use Rattle.vcd_text.specs.Time.{time_of}
 use Rattle.vcd_text.specs.Changes.{time_line, value_line, value_lines, at_time}

@@ -1,5 +1,4 @@
 -- `byte_of` meets its contract: it is what its callees answer. Assumes nothing.
-use borrow.Author.Rules.{rules}
 use Rattle.byte_bits.specs.Bytes.{byte_of}
 use Rattle.byte_bits.proofs.bytes.byte_of.Goals as goal
 

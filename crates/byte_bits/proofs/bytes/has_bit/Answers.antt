@@ -1,5 +1,4 @@
 -- `has_bit` meets its contract: its tests are the definition's. Assumes nothing.
-use borrow.Author.Rules.{rules}
 use Rattle.format.proofs.Laws.{steps}
 use Rattle.byte_bits.specs.Bytes.{has_bit}
 use Rattle.byte_bits.proofs.bytes.has_bit.Goals as goal

@@ -13,13 +13,11 @@ loop-i-init c = (omega arith, refl)
 
 pub loop-i-preserved : goal.loop-i-preserved
 loop-i-preserved c =
-    let at = c in
-    let word = at.args.word.now in
-    (omega arith, rw c.number_after-number.ensures (sym (spelled_next word at.loop-i.number at.loop-i.i (omega arith)) ∙ at.loop-i.invariant.1))
+    let word = c.args.word.now in
+    (omega arith, rw c.number_after-number.ensures (sym (spelled_next word c.loop-i.number c.loop-i.i (omega arith)) ∙ c.loop-i.invariant.1))
 
 pub returns : goal.returns
 returns c =
-    let at = c in
-    let word = at.args.word.now in
-    sym (spelled_end word at.loop-i.number at.loop-i.i (omega arith)) ∙ at.loop-i.invariant.1
-    ∙ sym (spelled_some word at.if-word-eq0.false)
+    let word = c.args.word.now in
+    sym (spelled_end word c.loop-i.number c.loop-i.i (omega arith)) ∙ c.loop-i.invariant.1
+    ∙ sym (spelled_some word c.if-word-eq0.false)

@@ -13,15 +13,14 @@ loop-i-init c = (omega arith, omega arith, refl, left_all _ _ _)
 
 pub loop-i-preserved : goal.loop-i-preserved
 loop-i-preserved c =
-    let at = c in
-    let a = at.args in
+    let a = c.args in
     let p = c.put_line-next.ensures in
-    let next = lines_next a.letter a.log.now at.loop-i.i (omega arith) in
-    let w = line_within a.letter (get_or a.log.now at.loop-i.i 0) (get_or a.log.now (at.loop-i.i + 1) 0) in (
+    let next = lines_next a.letter a.log.now c.loop-i.i (omega arith) in
+    let w = line_within a.letter (get_or a.log.now c.loop-i.i 0) (get_or a.log.now (c.loop-i.i + 1) 0) in (
       omega arith,
       omega (arith, p.ends),
-      puts_length p ∙ at.loop-i.invariant.2,
-      left_then (left_as next at.loop-i.invariant.3) p,
+      puts_length p ∙ c.loop-i.invariant.2,
+      left_then (left_as next c.loop-i.invariant.3) p,
     )
 
 pub shape_of-space : goal.shape_of-space
@@ -29,6 +28,5 @@ shape_of-space c = c.loop-i.invariant.2
 
 pub returns : goal.returns
 returns c =
-    let at = c in
-    let a = at.args in
-    left_none (left_as (lines_end a.letter a.log.now at.loop-i.i (omega arith)) at.loop-i.invariant.3)
+    let a = c.args in
+    left_none (left_as (lines_end a.letter a.log.now c.loop-i.i (omega arith)) c.loop-i.invariant.3)

@@ -1,5 +1,4 @@
 -- `break_character` meets its contract: the callee's character, with the break mark set. Assumes nothing.
-use borrow.Author.Rules.{rules}
 use Rattle.character.proofs.character.break_character.Goals as goal
 
 pub returns : goal.returns

@@ -1,5 +1,4 @@
 -- `no_character` meets its contract: a zero with the callee's marks. Assumes nothing.
-use borrow.Author.Rules.{rules}
 use Rattle.character.proofs.character.no_character.Goals as goal
 
 pub returns : goal.returns

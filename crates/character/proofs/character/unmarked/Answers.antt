@@ -1,5 +1,4 @@
 -- `unmarked` meets its contract: the byte with the callee's marks. Assumes nothing.
-use borrow.Author.Rules.{rules}
 use Rattle.character.proofs.character.unmarked.Goals as goal
 
 pub returns : goal.returns

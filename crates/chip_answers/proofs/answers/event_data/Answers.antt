@@ -1,6 +1,4 @@
 -- `event_data` meets its contract: one arm a register, each the definition's. Assumes nothing.
-use Prim.{tt}
-use borrow.Author.Rules.{rules}
 use Rattle.format.specs.Pick.{pick}
 use Rattle.chip_answers.specs.Answers.{event_data}
 use Rattle.chip_answers.proofs.answers.event_data.Goals as goal

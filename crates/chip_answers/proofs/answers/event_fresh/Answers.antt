@@ -1,6 +1,4 @@
 -- `event_fresh` meets its contract: one arm an event, each the definition's. Assumes nothing.
-use Prim.{tt}
-use borrow.Author.Rules.{rules}
 use Rattle.format.specs.Pick.{pick}
 use Rattle.chip_answers.specs.Answers.{event_fresh}
 use Rattle.chip_answers.proofs.answers.event_fresh.Goals as goal

@@ -1,5 +1,4 @@
 -- `is_asserted` meets its contract: it is what its callees answer. Assumes nothing.
-use Prim.{tt}
 use Rattle.chip_answers.specs.Answers.{asserted_of}
 use Rattle.chip_answers.proofs.answers.is_asserted.Goals as goal
 

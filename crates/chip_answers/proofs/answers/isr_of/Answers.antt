@@ -1,5 +1,4 @@
 -- `isr_of` meets its contract: it is what its callees answer. Assumes nothing.
-use Prim.{tt}
 use Rattle.chip_answers.proofs.answers.isr_of.Goals as goal
 
 pub returns : goal.returns

@@ -1,5 +1,4 @@
 -- `lines_of` meets its contract: it is what its callees answer. Assumes nothing.
-use Prim.{tt}
 use Rattle.chip_answers.specs.Answers.{asserted_of, lines_of}
 use Rattle.chip_answers.proofs.answers.lines_of.Goals as goal
 

@@ -1,5 +1,4 @@
 -- `register_data` meets its contract: one arm a register, each the definition's. Assumes nothing.
-use Prim.{tt}
 use Rattle.format.proofs.Laws.{steps}
 use Rattle.format.specs.Pick.{pick}
 use Rattle.chip_answers.specs.Answers.{register_data}

@@ -1,5 +1,4 @@
 -- `timer_level` meets its contract: each way through the tests is the definition's, with the callee's answer. Assumes nothing.
-use Prim.{tt}
 use Rattle.format.proofs.Laws.{steps}
 use Rattle.chip_answers.specs.Answers.{timer_level}
 use Rattle.chip_answers.proofs.answers.timer_level.Goals as goal

@@ -1,5 +1,4 @@
 -- `device_lines` meets its contract: it is what its callees answer. Assumes nothing.
-use Prim.{tt}
 use Rattle.chip_device.proofs.device.device_lines.Goals as goal
 
 pub returns : goal.returns

@@ -1,5 +1,4 @@
 -- `fresh` meets its contract: it is what its callees answer. Assumes nothing.
-use Prim.{tt}
 use Rattle.chip_device.specs.Device.{fresh_device}
 use Rattle.chip_device.proofs.device.fresh.Goals as goal
 

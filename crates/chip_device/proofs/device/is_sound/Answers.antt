@@ -1,7 +1,5 @@
 -- `is_sound` meets its contract: each way through the tests is the definition's, one test after the other. Assumes nothing.
-use Prim.{tt}
 use mathlib.Core.Path.{sym, ◌∙◌}
-use borrow.Author.Tests.{not-true, not-false}
 use Rattle.chip_soundness.proofs.Tests.{and_no, and_yes}
 use Rattle.chip_device.proofs.device.is_sound.Goals as goal
 

@@ -1,5 +1,4 @@
 -- `acknowledge` meets its contract: each way by the law of its row. Assumes nothing.
-use Prim.{tt}
 use mathlib.Core.Path.{sym, ◌∙◌, ap}
 use Rattle.chip_answers.specs.declared.answers.Lines.{Lines}
 use Rattle.chip_fast.proofs.Laws.Ticked.{unsound_refused, ack_asserted, ack_unasserted}

@@ -1,6 +1,4 @@
 -- `answer_other` meets its contract: each way is what its callee answers. Assumes nothing.
-use Prim.{tt}
-use borrow.Author.Rules.{rules}
 use Rattle.chip_fast.proofs.fast.answer_other.Goals as goal
 
 pub returns-in-Acknowledge : goal.returns-in-Acknowledge

@@ -1,5 +1,4 @@
 -- `at_rest` meets its contract: the lines are `device_lines`'s. Assumes nothing.
-use Prim.{tt}
 use Rattle.chip_fast.specs.Fast.{at_rest}
 use Rattle.chip_fast.proofs.fast.at_rest.Goals as goal
 

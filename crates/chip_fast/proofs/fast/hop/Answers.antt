@@ -1,5 +1,4 @@
 -- `hop` meets its contract: it is what its callees answer. Assumes nothing.
-use Prim.{tt}
 use Rattle.chip_fast.specs.Fast.{hop_of}
 use Rattle.chip_fast.proofs.fast.hop.Goals as goal
 

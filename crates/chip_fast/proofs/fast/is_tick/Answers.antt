@@ -1,5 +1,4 @@
 -- `is_tick` meets its contract: one arm an event, each the definition's. Assumes nothing.
-use borrow.Author.Rules.{rules}
 use Rattle.chip_fast.specs.Fast.{is_tick}
 use Rattle.chip_fast.proofs.fast.is_tick.Goals as goal
 

@@ -1,5 +1,4 @@
 -- `refuse_unsound` meets its contract: the lines are `no_lines`'s. Assumes nothing.
-use Prim.{tt}
 use Rattle.chip_step.specs.Chip.{refusal_lines}
 use Rattle.format.specs.Pick.{pick}
 use Rattle.chip_fast.proofs.fast.refuse_unsound.Goals as goal

@@ -1,5 +1,4 @@
 -- `sound_step` meets its contract: its test is the definition's, and each way is what its callee answers. Assumes nothing.
-use Prim.{tt}
 use Rattle.format.proofs.Laws.{steps}
 use Rattle.chip_fast.specs.Fast.{sound_answer}
 use Rattle.chip_fast.proofs.fast.sound_step.Goals as goal

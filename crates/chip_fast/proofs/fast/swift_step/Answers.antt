@@ -1,6 +1,5 @@
 -- `swift_step` meets its contract: a tick of a sound device by its law, of another by the first row, all else by the chip's step. Assumes
 -- nothing.
-use Prim.{tt}
 use mathlib.Core.Path.{sym, ◌∙◌}
 use Rattle.chip_fast.proofs.Laws.Ticked.{only_tick, unsound_refused, sound_tick_lem}
 use Rattle.chip_fast.proofs.fast.swift_step.Goals as goal

@@ -1,5 +1,4 @@
 -- `tick_fully` meets its contract: it is what its callees answer. Assumes nothing.
-use Prim.{tt}
 use Rattle.front_events.specs.FrontEvents.{front_stepped}
 use Rattle.chip_step.specs.Chip.{taken_of}
 use Rattle.chip_fast.proofs.fast.tick_fully.Goals as goal

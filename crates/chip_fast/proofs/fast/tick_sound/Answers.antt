@@ -1,7 +1,5 @@
 -- `tick_sound` meets its contract: a still tick in place, by the law of its way, any other by what its callees answer. Assumes nothing.
-use Prim.{tt}
 use mathlib.Core.Path.{sym, ◌∙◌}
-use borrow.Author.Rules.{rules}
 use borrow.Author.Tests.{ltb-true}
 use Rattle.chip_fast.proofs.Laws.Ticked.{still_written, full_tick}
 use Rattle.chip_fast.proofs.fast.tick_sound.Goals as goal

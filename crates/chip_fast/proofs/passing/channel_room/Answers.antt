@@ -1,5 +1,4 @@
 -- `channel_room` meets its contract: the least of what its callees answer. Assumes nothing.
-use Prim.{tt}
 use Rattle.chip_fast.proofs.passing.channel_room.Goals as goal
 
 pub returns : goal.returns

@@ -1,5 +1,4 @@
 -- `front_room` meets its contract: the least of what its callees answer. Assumes nothing.
-use Prim.{tt}
 use Rattle.chip_fast.proofs.passing.front_room.Goals as goal
 
 pub returns : goal.returns

@@ -1,5 +1,4 @@
 -- `has_room` meets its contract: a clock without room leaves none for all, and the last one decides. Assumes nothing.
-use Prim.{tt}
 use Prim.Native.Nat.{◌<◌}
 use mathlib.Core.Path.{◌≡◌, sym, ◌∙◌, ap}
 use native.Mathlib.Omega.{arith}

@@ -1,5 +1,5 @@
 -- `least` meets its contract: the test decides which is the least. Assumes nothing.
-use Prim.Native.Nat.{ℕ, min}
+use Prim.Native.Nat.{ℕ}
 use mathlib.Core.Path.{◌≡◌, ap}
 use native.Mathlib.Omega.{arith}
 use Rattle.format.specs.declared.counts.Ticks.{Ticks}

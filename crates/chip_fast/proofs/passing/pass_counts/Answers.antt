@@ -1,5 +1,4 @@
 -- `pass_counts` meets its contract: it is what its callees answer. Assumes nothing.
-use Prim.{tt}
 use Rattle.chip_fast.proofs.passing.pass_counts.Goals as goal
 
 pub returns : goal.returns

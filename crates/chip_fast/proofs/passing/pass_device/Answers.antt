@@ -1,6 +1,4 @@
 -- `pass_device` meets its contract: what its callee answers is written to the fields that pass. Assumes nothing.
-use Prim.{tt}
-use borrow.Author.Rules.{rules}
 use Rattle.chip_fast.proofs.Laws.Passing.{passed_written}
 use Rattle.chip_fast.proofs.passing.pass_device.Goals as goal
 

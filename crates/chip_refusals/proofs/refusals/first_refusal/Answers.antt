@@ -1,5 +1,4 @@
 -- `first_refusal` meets its contract: it is what its callees answer. Assumes nothing.
-use Prim.{tt}
 use Rattle.chip_refusals.specs.Refusals.{first_of}
 use Rattle.chip_refusals.proofs.refusals.first_refusal.Goals as goal
 

@@ -1,6 +1,4 @@
 -- `chooses_not_modelled` meets its contract: one arm a register, each the definition's. Assumes nothing.
-use Prim.{tt}
-use borrow.Author.Rules.{rules}
 use Rattle.format.specs.Pick.{pick}
 use Rattle.chip_refusals.specs.Rows.{setting_not_modelled}
 use Rattle.chip_refusals.proofs.rows.chooses_not_modelled.Goals as goal

@@ -1,5 +1,4 @@
 -- `is_device_asserted` meets its contract: it is what its callees answer. Assumes nothing.
-use Prim.{tt}
 use Rattle.chip_refusals.proofs.rows.is_device_asserted.Goals as goal
 
 pub returns : goal.returns

@@ -1,6 +1,4 @@
 -- `is_forbidden_command` meets its contract: one arm a register, each the definition's. Assumes nothing.
-use Prim.{tt}
-use borrow.Author.Rules.{rules}
 use Rattle.format.specs.Pick.{pick}
 use Rattle.chip_refusals.specs.Rows.{forbidden_command}
 use Rattle.chip_refusals.proofs.rows.is_forbidden_command.Goals as goal

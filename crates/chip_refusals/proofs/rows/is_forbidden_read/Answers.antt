@@ -1,5 +1,4 @@
 -- `is_forbidden_read` meets its contract: one arm a register, each the definition's. Assumes nothing.
-use borrow.Author.Rules.{rules}
 use Rattle.format.specs.Pick.{pick}
 use Rattle.chip_refusals.specs.Rows.{forbidden_read}
 use Rattle.chip_refusals.proofs.rows.is_forbidden_read.Goals as goal

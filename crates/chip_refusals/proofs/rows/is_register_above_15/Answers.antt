@@ -1,5 +1,4 @@
 -- `is_register_above_15` meets its contract: one arm a register, each the definition's. Assumes nothing.
-use borrow.Author.Rules.{rules}
 use Rattle.format.specs.Pick.{pick}
 use Rattle.chip_refusals.specs.Rows.{register_above15}
 use Rattle.chip_refusals.proofs.rows.is_register_above_15.Goals as goal

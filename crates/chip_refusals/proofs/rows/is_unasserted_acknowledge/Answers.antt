@@ -1,6 +1,4 @@
 -- `is_unasserted_acknowledge` meets its contract: one arm a register, each the definition's. Assumes nothing.
-use Prim.{tt}
-use borrow.Author.Rules.{rules}
 use Rattle.format.specs.Pick.{pick}
 use Rattle.chip_refusals.specs.Rows.{acknowledged_unasserted}
 use Rattle.chip_refusals.proofs.rows.is_unasserted_acknowledge.Goals as goal

@@ -1,5 +1,4 @@
 -- `show_channel` meets its contract: it is what its callees answer. Assumes nothing.
-use Prim.{tt}
 use Rattle.chip_shown.specs.Shown.{shown_of}
 use Rattle.chip_shown.proofs.shown.show_channel.Goals as goal
 

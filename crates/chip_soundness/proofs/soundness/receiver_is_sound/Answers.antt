@@ -1,9 +1,8 @@
 -- `receiver_is_sound` meets its contract: each way through the tests is the definition's, one test after the other. Assumes nothing.
-use Prim.{tt}
 use mathlib.Core.Path.{sym, ◌∙◌, ap}
 use mathlib.Core.Bool.{Bool, not, ◌||◌}
 use lib.Dec.{eqb}
-use borrow.Author.Tests.{le-leb, lt-leb, not-true, not-false}
+use borrow.Author.Tests.{le-leb, lt-leb}
 use Rattle.chip_soundness.proofs.Tests.{and_no, and_yes}
 use Rattle.chip_soundness.proofs.soundness.receiver_is_sound.Goals as goal
 

@@ -1,7 +1,6 @@
 -- `sampler_in_range` meets its contract: each way through the tests is the definition's, one test after the other. Assumes nothing.
-use Prim.{tt}
 use mathlib.Core.Path.{sym, ◌∙◌}
-use borrow.Author.Tests.{le-leb, lt-leb, not-true, not-false}
+use borrow.Author.Tests.{le-leb, lt-leb}
 use Rattle.chip_soundness.proofs.Tests.{and_no, and_yes}
 use Rattle.chip_soundness.proofs.soundness.sampler_in_range.Goals as goal
 

@@ -1,8 +1,6 @@
 -- `side_in_range` meets its contract: each way through the tests is the definition's, one test after the other. Assumes nothing.
-use Prim.{tt}
 use mathlib.Core.Path.{sym, ◌∙◌, ap}
 use mathlib.Core.Bool.{not}
-use borrow.Author.Tests.{not-true, not-false}
 use Rattle.chip_soundness.proofs.Tests.{and_no, and_yes}
 use Rattle.chip_soundness.proofs.soundness.side_in_range.Goals as goal
 

@@ -1,5 +1,4 @@
 -- `accept` meets its contract: it is what its callees answer. Assumes nothing.
-use Prim.{tt}
 use Rattle.chip_step.proofs.chip.accept.Goals as goal
 
 pub returns : goal.returns

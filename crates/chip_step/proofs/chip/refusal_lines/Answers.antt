@@ -1,5 +1,4 @@
 -- `refusal_lines` meets its contract: each way through the tests is the definition's, with the callee's answer. Assumes nothing.
-use Prim.{tt}
 use Rattle.format.proofs.Laws.{steps}
 use Rattle.chip_step.specs.Chip.{refusal_lines}
 use Rattle.chip_step.proofs.chip.refusal_lines.Goals as goal

@@ -1,5 +1,4 @@
 -- `refuse` meets its contract: it is what its callees answer. Assumes nothing.
-use Prim.{tt}
 use Rattle.chip_step.proofs.chip.refuse.Goals as goal
 
 pub returns : goal.returns

@@ -1,5 +1,4 @@
 -- `step` meets its contract: each way out is the table's answer, by the laws of the table. Assumes nothing.
-use Prim.{tt}
 use mathlib.Core.Path.{sym, ap, ◌∙◌}
 use Rattle.chip_step.proofs.Laws.Table.{accepts, refuses_seven, refuses_first}
 use Rattle.chip_device.specs.Device.{is_sound_of}

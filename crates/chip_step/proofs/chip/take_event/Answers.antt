@@ -1,5 +1,4 @@
 -- `take_event` meets its contract: it is what its callees answer. Assumes nothing.
-use Prim.{tt}
 use Rattle.chip_step.specs.Chip.{taken_of}
 use Rattle.chip_step.proofs.chip.take_event.Goals as goal
 

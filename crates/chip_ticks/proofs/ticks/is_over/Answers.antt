@@ -1,5 +1,4 @@
 -- `is_over` meets its contract: its tests are the definition's. Assumes nothing.
-use Prim.{tt}
 use Rattle.format.proofs.Laws.{steps}
 use Rattle.chip_ticks.specs.Ticks.{is_over}
 use Rattle.chip_ticks.proofs.ticks.is_over.Goals as goal

@@ -1,16 +1,14 @@
 -- `spend` meets its contract: what is spent already and what the ticks that are left will spend is what all of them spend. Assumes nothing.
-use Prim.{tt}
-use Prim.Native.Nat.{ℕ, suc, ◌-◌, ◌≤◌, ◌<◌}
-use mathlib.Core.Path.{◌≡◌, sym, ◌∙◌, ap}
+use Prim.Native.Nat.{ℕ, suc, ◌-◌, ◌≤◌}
+use mathlib.Core.Path.{◌≡◌, sym, ◌∙◌}
 use mathlib.Core.Bool.{Bool, false}
 use native.Mathlib.Omega.{arith}
-use Rattle.format.specs.declared.counts.Ticks.{Ticks}
 use Rattle.dividers.proofs.Laws.Divider.{ticks_of}
 use Rattle.chip_device.specs.declared.device.Device.{Device}
 use Rattle.chip_fast.specs.declared.fast.Hopped.{Hopped}
 use Rattle.chip_fast.specs.Fast.{hop_of}
 use Rattle.chip_ticks.specs.Ticks.{is_over}
-use Rattle.chip_ticks.proofs.Laws.{Sofar, starts, hop_within, hops, ends, not_over}
+use Rattle.chip_ticks.proofs.Laws.{starts, hop_within, hops, ends, not_over}
 use Rattle.chip_ticks.proofs.ticks.spend.Goals as goal
 
 -- in a turn it is not over, and a hop is within what is left

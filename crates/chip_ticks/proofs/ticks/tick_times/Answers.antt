@@ -1,5 +1,4 @@
 -- `tick_times` meets its contract: of a sound device the last answer is that of the state after the ticks, of another each is the first. Assumes nothing.
-use Prim.{tt}
 use mathlib.Core.Path.{sym, ◌∙◌}
 use native.Mathlib.Omega.{arith}
 use Rattle.chip_ticks.proofs.Laws.{ticked_none, ticked_sound, ticked_unsound}

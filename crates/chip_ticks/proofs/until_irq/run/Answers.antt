@@ -1,6 +1,5 @@
 -- `run` meets its contract: its tests are the refusals in their order, and what is spent is what is spent. Assumes nothing.
-use Prim.{tt}
-use Prim.Native.Nat.{◌≤◌, ◌<◌}
+use Prim.Native.Nat.{◌≤◌}
 use mathlib.Core.Path.{sym, ◌∙◌}
 use mathlib.Core.Bool.{true}
 use native.Mathlib.Omega.{arith}

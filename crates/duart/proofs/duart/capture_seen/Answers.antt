@@ -1,7 +1,6 @@
 -- `capture_seen` meets its contract: the length is that of the channel named. Assumes nothing.
 use Rattle.format.proofs.Laws.{steps}
 use Rattle.duart.specs.Duart.{capture_seen}
-use borrow.Author.Rules.{rules}
 use Rattle.duart.proofs.duart.capture_seen.Goals as goal
 
 pub returns-then-channel_b : goal.returns-then-channel_b

@@ -1,6 +1,5 @@
 -- `duart_capture` meets its contract, which is `read_capture`'s with the length of the channel named. Assumes nothing.
 use mathlib.Core.Path.{◌∙◌}
-use borrow.Author.Rules.{rules}
 use Rattle.duart.proofs.duart.duart_capture.Goals as goal
 
 pub returns : goal.returns

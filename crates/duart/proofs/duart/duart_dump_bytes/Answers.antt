@@ -1,6 +1,5 @@
 -- `duart_dump_bytes` meets its contract, which is `dump`'s. Assumes nothing.
 use Prim.{tt}
-use borrow.Author.Rules.{rules}
 use Rattle.duart.proofs.duart.duart_dump_bytes.Goals as goal
 
 pub dump-requires : goal.dump-requires

@@ -1,5 +1,4 @@
 -- `format_of` meets its contract: each field is the definition's. Assumes nothing.
-use borrow.Author.Rules.{rules}
 use Rattle.format.specs.Format.{format_of}
 use Rattle.format.proofs.Laws.{steps}
 use Rattle.format.proofs.format.format_of.Goals as goal

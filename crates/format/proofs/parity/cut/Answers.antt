@@ -2,7 +2,6 @@
 use mathlib.Core.Path.{sym}
 use native.Mathlib.Omega.{arith}
 use lib.Pow.{pow_pos}
-use borrow.Author.Rules.{rules}
 use Rattle.format.proofs.Laws.Digits.{power, cut_whole}
 use Rattle.format.proofs.parity.cut.Goals as goal
 

@@ -1,7 +1,6 @@
 -- `odd_data` meets its contract: the parity of the byte cut to its data bits is that of the data bits. Assumes nothing.
 use mathlib.Core.Path.{◌∙◌}
 use native.Mathlib.Omega.{arith}
-use borrow.Author.Rules.{rules}
 use Rattle.format.proofs.Laws.Digits.{odd_cut, cut_small}
 use Rattle.format.proofs.parity.odd_data.Goals as goal
 

@@ -1,5 +1,4 @@
 -- `parity_bit` meets its contract: each way through the tests is the definition's. Assumes nothing.
-use borrow.Author.Rules.{rules}
 use Rattle.format.specs.Parity.{parity_bit_of}
 use Rattle.format.proofs.Laws.{steps}
 use Rattle.format.proofs.parity.parity_bit.Goals as goal

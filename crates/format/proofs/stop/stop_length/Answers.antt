@@ -1,5 +1,4 @@
 -- `stop_length` meets its contract: each way through the tests is one of the two formulas, and neither passes 32. Assumes nothing.
-use native.Mathlib.Omega.{arith}
 use Rattle.format.specs.Stop.{stop_length_of}
 use Rattle.format.proofs.Laws.{steps}
 use Rattle.format.proofs.stop.stop_length.Goals as goal

@@ -26,13 +26,12 @@ overflow_add-result c =
 pub returns-then-sixteen : goal.returns-then-sixteen
 unfolding frame_length_of pick
 returns-then-sixteen c =
-    let at = c in
     simp (
-      at.if-sixteen.true,
-      at.bits_before_stop-bits.ensures,
+      c.if-sixteen.true,
+      c.bits_before_stop-bits.ensures,
       c.stop_length.ensures,
       c.format_of-format.ensures,
-      at.stop_code_of-code.ensures,
+      c.stop_code_of-code.ensures,
     )
 
 pub overflow_add-result-2 : goal.overflow_add-result-2
@@ -44,11 +43,10 @@ overflow_add-result-2 c =
 pub returns : goal.returns
 unfolding frame_length_of pick
 returns c =
-    let at = c in
     simp (
-      at.if-sixteen.false,
-      at.bits_before_stop-bits.ensures,
+      c.if-sixteen.false,
+      c.bits_before_stop-bits.ensures,
       c.stop_bits.ensures,
-      at.stop_code_of-code.ensures,
+      c.stop_code_of-code.ensures,
       one-mul,
     )

@@ -1,11 +1,8 @@
 -- `list_byte` meets its contract: after each turn the line holds one level more, and the last answer is a bit further. Assumes nothing.
-use Prim.{tt}
-use Prim.Native.Nat.{◌≤◌, ◌-◌}
 use mathlib.Core.Path.{◌≡◌, refl}
 use native.Mathlib.Omega.{arith}
-use borrow.Author.Rules.{rules}
-use lib.ListN.{length, length-set}
-use Rattle.lister_line.proofs.Laws.Turns.{Sofar, start, turn, ends}
+use lib.ListN.{length-set}
+use Rattle.lister_line.proofs.Laws.Turns.{start, turn, ends}
 use Rattle.lister_line.proofs.line.list_byte.Goals as goal
 
 pub loop-at-init : goal.loop-at-init

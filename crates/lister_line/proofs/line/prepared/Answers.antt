@@ -1,5 +1,4 @@
 -- `prepared` meets its contract: it is what its callees answer. Assumes nothing.
-use Prim.{tt}
 use Rattle.lister_line.specs.Line.{prepared_device}
 use Rattle.lister_line.proofs.line.prepared.Goals as goal
 

@@ -1,5 +1,4 @@
 -- `write` meets its contract: it is what `step` answers. Assumes nothing.
-use Prim.{tt}
 use Rattle.lister_line.proofs.line.write.Goals as goal
 
 pub returns : goal.returns

@@ -1,5 +1,5 @@
 -- `poll` meets its contract: each turn of the loop takes one event, and the loop is left at a refused one, or where no event is left. Assumes nothing.
-use Prim.Native.Nat.{ℕ, ◌+◌, ◌<◌, ◌≤◌}
+use Prim.Native.Nat.{ℕ, ◌+◌, ◌<◌}
 use mathlib.Core.Path.{◌≡◌, refl, sym, ◌∙◌}
 use mathlib.Core.Bool.{true, false}
 use mathlib.Core.List.{List}
@@ -11,8 +11,8 @@ use Rattle.records.specs.declared.records.EventRecord.{EventRecord}
 use Rattle.records.specs.declared.records.Seen.{Seen}
 use Rattle.poll.specs.declared.polling.Polled.{Polled}
 use Rattle.poll.specs.Step.{turn_of}
-use Rattle.poll.specs.Poll.{seen_in, is_refused, poll_refusal, most_events, after_poll, polled_of}
-use Rattle.poll.proofs.Runs.{Sofar, Done, no_event, settled, over, on, starts}
+use Rattle.poll.specs.Poll.{is_refused, poll_refusal, most_events, after_poll, polled_of}
+use Rattle.poll.proofs.Runs.{Done, no_event, settled, over, on, starts}
 use Rattle.poll.proofs.Asked.{most_listed, most_room, asked}
 use Rattle.poll.proofs.polling.poll.Goals as goal
 

@@ -1,5 +1,4 @@
 -- `empty_queue` meets its contract: four places with the callee's character. Assumes nothing.
-use borrow.Author.Rules.{rules}
 use Rattle.queue.proofs.queue.empty_queue.Goals as goal
 
 pub returns : goal.returns

@@ -1,5 +1,4 @@
 -- `remove_waiting` meets its contract: the callee's test chooses, as the definition's does. Assumes nothing.
-use borrow.Author.Rules.{rules}
 use Rattle.format.proofs.Laws.{steps}
 use Rattle.queue.specs.Queue.{without_waiting_of}
 use Rattle.queue.proofs.queue.remove_waiting.Goals as goal

@@ -1,5 +1,4 @@
 -- `take_oldest` meets its contract: each place takes over the next one's character. Assumes nothing.
-use borrow.Author.Rules.{rules}
 use Rattle.format.proofs.Laws.{steps}
 use Rattle.queue.specs.Queue.{took_of}
 use Rattle.queue.proofs.queue.take_oldest.Goals as goal

@@ -1,5 +1,4 @@
 -- `feed_receiver` meets its contract: one arm a feed, each the callee's answer. Assumes nothing.
-use borrow.Author.Rules.{rules}
 use Rattle.receiver.specs.Receiver.{fed_of}
 use Rattle.receiver.proofs.receiver.feed_receiver.Goals as goal
 

@@ -1,5 +1,4 @@
 -- `read` meets its contract: the callee's test chooses, as the definition's does. Assumes nothing.
-use borrow.Author.Rules.{rules}
 use Rattle.format.proofs.Laws.{steps}
 use Rattle.receiver.specs.Receiver.{read_of}
 use Rattle.receiver.proofs.receiver.read.Goals as goal

@@ -1,5 +1,4 @@
 -- `read_oldest` meets its contract: the queue, its oldest and the sums are the callees'. Assumes nothing.
-use borrow.Author.Rules.{rules}
 use Rattle.receiver.specs.Receiver.{oldest_read}
 use Rattle.receiver.proofs.receiver.read_oldest.Goals as goal
 

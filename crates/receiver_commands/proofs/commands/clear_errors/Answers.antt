@@ -1,5 +1,4 @@
 -- `clear_errors` meets its contract: the queue and the sums are the callees'. Assumes nothing.
-use borrow.Author.Rules.{rules}
 use Rattle.receiver_commands.proofs.commands.clear_errors.Goals as goal
 
 pub returns : goal.returns

@@ -1,5 +1,4 @@
 -- `drop_character` meets its contract: the sampler is the callee's. Assumes nothing.
-use borrow.Author.Rules.{rules}
 use Rattle.receiver_commands.proofs.commands.drop_character.Goals as goal
 
 pub returns : goal.returns

@@ -1,5 +1,4 @@
 -- `reset` meets its contract: the dropped character and the queue are the callees'. Assumes nothing.
-use borrow.Author.Rules.{rules}
 use Rattle.receiver_commands.proofs.commands.reset.Goals as goal
 
 pub returns : goal.returns

@@ -1,5 +1,4 @@
 -- `take_effect` meets its contract: one arm an effect, each the callee's answer. Assumes nothing.
-use borrow.Author.Rules.{rules}
 use Rattle.receiver_commands.specs.Commands.{effect_of}
 use Rattle.receiver_commands.proofs.commands.take_effect.Goals as goal
 

@@ -1,5 +1,4 @@
 -- `take_enabling` meets its contract: one arm a case, each the callee's answer. Assumes nothing.
-use borrow.Author.Rules.{rules}
 use Rattle.receiver_commands.specs.Commands.{enabling_of}
 use Rattle.receiver_commands.proofs.commands.take_enabling.Goals as goal
 

@@ -1,5 +1,4 @@
 -- `arrive` meets its contract: one arm a case of the sampler's answer. Assumes nothing.
-use borrow.Author.Rules.{rules}
 use Rattle.receiver_state.specs.Arrivals.{arrived_of}
 use Rattle.receiver_state.proofs.arrivals.arrive.Goals as goal
 

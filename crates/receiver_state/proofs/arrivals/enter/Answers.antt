@@ -1,5 +1,4 @@
 -- `enter` meets its contract: the callee's test chooses whether the sums grow. Assumes nothing.
-use borrow.Author.Rules.{rules}
 use Rattle.format.proofs.Laws.{steps}
 use Rattle.receiver_state.specs.Arrivals.{entered_of}
 use Rattle.receiver_state.proofs.arrivals.enter.Goals as goal

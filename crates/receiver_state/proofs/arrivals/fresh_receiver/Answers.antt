@@ -1,5 +1,4 @@
 -- `fresh_receiver` meets its contract: every part is the callee's, the rest zero. Assumes nothing.
-use borrow.Author.Rules.{rules}
 use Rattle.receiver_state.proofs.arrivals.fresh_receiver.Goals as goal
 
 pub returns : goal.returns

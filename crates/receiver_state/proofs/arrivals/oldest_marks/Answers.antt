@@ -1,5 +1,4 @@
 -- `oldest_marks` meets its contract: the callee's test chooses, as the definition's does. Assumes nothing.
-use borrow.Author.Rules.{rules}
 use Rattle.format.proofs.Laws.{steps}
 use Rattle.receiver_state.specs.Arrivals.{oldest_marks}
 use Rattle.receiver_state.proofs.arrivals.oldest_marks.Goals as goal

@@ -1,5 +1,4 @@
 -- `pulse` meets its contract: the sampler's answer goes through the three callees in turn. Assumes nothing.
-use borrow.Author.Rules.{rules}
 use Rattle.receiver_state.specs.Arrivals.{pulsed_of}
 use Rattle.receiver_state.proofs.arrivals.pulse.Goals as goal
 

@@ -1,5 +1,4 @@
 -- `start` meets its contract: the queue and what is said of overrun are the callees'. Assumes nothing.
-use borrow.Author.Rules.{rules}
 use Rattle.format.proofs.Laws.{steps}
 use Rattle.receiver_state.specs.Arrivals.{started_of}
 use Rattle.receiver_state.proofs.arrivals.start.Goals as goal

@@ -1,5 +1,4 @@
 -- `show_status` meets its contract: each bit is the callee's. Assumes nothing.
-use borrow.Author.Rules.{rules}
 use Rattle.receiver_status.proofs.status.show_status.Goals as goal
 
 pub returns : goal.returns

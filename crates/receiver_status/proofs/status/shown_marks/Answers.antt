@@ -1,5 +1,4 @@
 -- `shown_marks` meets its contract: the two answers are the definition's. Assumes nothing.
-use borrow.Author.Rules.{rules}
 use Rattle.format.proofs.Laws.{steps}
 use Rattle.receiver_status.specs.Status.{shown_marks}
 use Rattle.receiver_status.proofs.status.shown_marks.Goals as goal

@@ -1,5 +1,4 @@
 -- `tell` meets its contract: each way through the tests is the definition's, and what each calls is its own definition's. Assumes nothing.
-use borrow.Author.Rules.{rules}
 use Rattle.format.proofs.Laws.{steps}
 use Rattle.replay_script.specs.Lines.{told_of}
 use Rattle.replay_script.proofs.lines.tell.Goals as goal

@@ -1,5 +1,4 @@
 -- `tell_with_two` meets its contract: each way through the tests is the definition's. Assumes nothing.
-use borrow.Author.Rules.{rules}
 use Rattle.format.proofs.Laws.{steps}
 use Rattle.replay_script.specs.Lines.{told_with_two}
 use Rattle.replay_script.proofs.lines.tell_with_two.Goals as goal

@@ -1,5 +1,4 @@
 -- `first_place` meets its contract: the reading is `start`'s. Assumes nothing.
-use borrow.Author.Rules.{rules}
 use Rattle.replay_script.proofs.place.first_place.Goals as goal
 
 pub returns : goal.returns

@@ -1,5 +1,4 @@
 -- `line_after` meets its contract: each way through the test is the definition's. Assumes nothing.
-use borrow.Author.Rules.{rules}
 use Rattle.format.proofs.Laws.{steps}
 use Rattle.replay_script.specs.Place.{line_after}
 use Rattle.replay_script.proofs.place.line_after.Goals as goal

@@ -1,5 +1,4 @@
 -- `next_line` meets its contract: the reading is `start`'s. Assumes nothing.
-use borrow.Author.Rules.{rules}
 use Rattle.replay_script.proofs.place.next_line.Goals as goal
 
 pub returns : goal.returns

@@ -1,5 +1,4 @@
 -- `next_place` meets its contract: the reading is `take`'s. Assumes nothing.
-use borrow.Author.Rules.{rules}
 use Rattle.replay_script.proofs.place.next_place.Goals as goal
 
 pub returns : goal.returns

@@ -1,5 +1,4 @@
 -- `begin` meets its contract: each field is what its function ensures. Assumes nothing.
-use borrow.Author.Rules.{rules}
 use Rattle.replay_script.specs.Reading.{begun_of}
 use Rattle.replay_script.proofs.reading.begin.Goals as goal
 

@@ -1,5 +1,4 @@
 -- `take` meets its contract: each way through the tests is the definition's. Assumes nothing.
-use borrow.Author.Rules.{rules}
 use Rattle.format.proofs.Laws.{steps}
 use Rattle.replay_script.specs.Reading.{taken_of}
 use Rattle.replay_script.proofs.reading.take.Goals as goal

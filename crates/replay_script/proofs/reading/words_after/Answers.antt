@@ -1,5 +1,4 @@
 -- `words_after` meets its contract: each way through the test is the definition's. Assumes nothing.
-use borrow.Author.Rules.{rules}
 use Rattle.format.proofs.Laws.{steps}
 use Rattle.replay_script.specs.Reading.{words_after}
 use Rattle.replay_script.proofs.reading.words_after.Goals as goal

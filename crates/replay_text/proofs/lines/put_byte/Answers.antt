@@ -3,7 +3,6 @@ use mathlib.Core.Path.{refl}
 use native.Mathlib.Omega.{arith}
 use Rattle.text.proofs.Laws.Decimal.{decimal_within}
 use Rattle.text.proofs.Laws.Puts.{puts_one, puts_then}
-use borrow.Author.Rules.{rules}
 use Rattle.replay_text.proofs.lines.put_byte.Goals as goal
 
 pub overflow_add-result : goal.overflow_add-result

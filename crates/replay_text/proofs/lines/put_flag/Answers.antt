@@ -4,7 +4,6 @@ use mathlib.Core.Path.{refl, ap}
 use mathlib.Core.List.{[], ◌∷◌}
 use native.Mathlib.Omega.{arith}
 use Rattle.text.proofs.Laws.Puts.{puts_one, puts_then, puts_as}
-use borrow.Author.Rules.{rules}
 use Rattle.replay_text.proofs.lines.put_flag.Goals as goal
 
 pub returns : goal.returns

@@ -5,7 +5,6 @@ use Rattle.text.specs.Bytes.{bytes_of}
 use Rattle.text.proofs.Laws.Decimal.{decimal_within}
 use Rattle.text.proofs.Laws.Puts.{puts_one, puts_then, puts_front}
 use Rattle.replay_text.specs.Lines.{error_text}
-use borrow.Author.Rules.{rules}
 use Rattle.replay_text.proofs.lines.write_error.Goals as goal
 
 pub overflow_add-result : goal.overflow_add-result

@@ -2,7 +2,6 @@
 use mathlib.Core.List.{append_assoc}
 use native.Mathlib.Omega.{arith}
 use Rattle.text.proofs.Laws.Puts.{puts_then, puts_as, puts_front}
-use borrow.Author.Rules.{rules}
 use Rattle.replay_text.proofs.lines.write_seen.Goals as goal
 
 pub returns : goal.returns

@@ -1,13 +1,9 @@
 -- `write_levels` meets its contract. The invariant of its loop: the first i levels stand over the front of the space, and the rest is as it was.
 -- A turn writes the frame's next level, which is bit i / 16 of the register. Assumes nothing.
 use Prim.Native.Nat.{◌≤◌, ◌-◌}
-use mathlib.Core.Path.{◌≡◌, refl, sym, ◌∙◌}
-use native.Mathlib.Numerals.{add-one}
-use native.Mathlib.Omega.{arith}
-use lib.ListN.{length, get_or, length-set}
-use borrow.Author.Rules.{rules}
+use mathlib.Core.Path.{◌≡◌}
+use lib.ListN.{length}
 use Rattle.request.specs.Request.{open_levels, over_front}
-use Rattle.request.proofs.Laws.Request.{open_length, open_at, over_more}
 use Rattle.request.proofs.request.write_levels.Given as goal
 
 abbrev pub invariant-loop-i : goal.invariant-loop-i

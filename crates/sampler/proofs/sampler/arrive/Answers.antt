@@ -1,5 +1,4 @@
 -- `arrive` meets its contract: sampler and character are the callees'. Assumes nothing.
-use borrow.Author.Rules.{rules}
 use Rattle.sampler.proofs.sampler.arrive.Goals as goal
 
 pub returns : goal.returns

@@ -1,5 +1,4 @@
 -- `finish` meets its contract: each way through the tests is the definition's, with the callee's answer. Assumes nothing.
-use borrow.Author.Rules.{rules}
 use Rattle.format.proofs.Laws.{steps}
 use Rattle.sampler.specs.Sampler.{finished}
 use Rattle.sampler.proofs.sampler.finish.Goals as goal

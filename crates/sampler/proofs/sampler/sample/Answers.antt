@@ -1,5 +1,4 @@
 -- `sample` meets its contract: the phase chooses the rule, and the answer is the callee's. Assumes nothing.
-use borrow.Author.Rules.{rules}
 use Rattle.format.proofs.Laws.{steps}
 use Rattle.sampler.specs.Sampler.{sample_of}
 use Rattle.sampler.proofs.sampler.sample.Goals as goal

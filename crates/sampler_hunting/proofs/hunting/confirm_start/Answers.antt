@@ -1,5 +1,4 @@
 -- `confirm_start` meets its contract: the gap and the sampler are the callees'. Assumes nothing.
-use borrow.Author.Rules.{rules}
 use Rattle.sampler_hunting.proofs.hunting.confirm_start.Goals as goal
 
 pub returns : goal.returns

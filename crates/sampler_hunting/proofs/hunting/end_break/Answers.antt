@@ -1,5 +1,4 @@
 -- `end_break` meets its contract: the sampler is the callee's. Assumes nothing.
-use borrow.Author.Rules.{rules}
 use Rattle.sampler_hunting.proofs.hunting.end_break.Goals as goal
 
 pub returns : goal.returns

@@ -1,5 +1,4 @@
 -- `follow_low_stop` meets its contract: each way through the tests is the definition's, with the callee's answer. Assumes nothing.
-use borrow.Author.Rules.{rules}
 use Rattle.format.proofs.Laws.{steps}
 use Rattle.sampler_hunting.specs.Hunting.{followed}
 use Rattle.sampler_hunting.proofs.hunting.follow_low_stop.Goals as goal

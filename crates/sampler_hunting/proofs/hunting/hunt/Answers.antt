@@ -1,5 +1,4 @@
 -- `hunt` meets its contract: each way through the tests is the definition's, with the callee's answer. Assumes nothing.
-use borrow.Author.Rules.{rules}
 use Rattle.format.proofs.Laws.{steps}
 use Rattle.sampler_hunting.specs.Hunting.{hunted}
 use Rattle.sampler_hunting.proofs.hunting.hunt.Goals as goal

@@ -1,5 +1,4 @@
 -- `look_again` meets its contract: each way through the tests is the definition's, with the callee's answer. Assumes nothing.
-use borrow.Author.Rules.{rules}
 use Rattle.format.proofs.Laws.{steps}
 use Rattle.sampler_hunting.specs.Hunting.{looked_again}
 use Rattle.sampler_hunting.proofs.hunting.look_again.Goals as goal

@@ -1,5 +1,4 @@
 -- `low_at` meets its contract: 16X or 1X, each the callee's answer. Assumes nothing.
-use borrow.Author.Rules.{rules}
 use Rattle.format.proofs.Laws.{steps}
 use Rattle.sampler_hunting.specs.Hunting.{low_at}
 use Rattle.sampler_hunting.proofs.hunting.low_at.Goals as goal

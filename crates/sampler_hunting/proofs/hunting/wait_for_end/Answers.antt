@@ -1,5 +1,4 @@
 -- `wait_for_end` meets its contract: each way through the tests is the definition's, with the callee's answer. Assumes nothing.
-use borrow.Author.Rules.{rules}
 use Rattle.format.proofs.Laws.{steps}
 use Rattle.sampler_hunting.specs.Hunting.{waited}
 use Rattle.sampler_hunting.proofs.hunting.wait_for_end.Goals as goal

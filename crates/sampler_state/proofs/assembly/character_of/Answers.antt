@@ -1,5 +1,4 @@
 -- `character_of` meets its contract: the data bits and the parity mark are the callees'. Assumes nothing.
-use borrow.Author.Rules.{rules}
 use Rattle.sampler_state.specs.Assembly.{character_of}
 use Rattle.sampler_state.proofs.assembly.character_of.Goals as goal
 

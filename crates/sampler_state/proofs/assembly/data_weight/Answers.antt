@@ -1,7 +1,6 @@
 -- `data_weight` meets its contract: there are at most eight data bits, so that a word holds the power of two. Assumes nothing.
 use Prim.Native.Nat.{◌≤◌}
 use native.Mathlib.Omega.{arith}
-use borrow.Author.Rules.{rules}
 use Rattle.format.proofs.Laws.Digits.{power}
 use Rattle.sampler_state.proofs.Laws.Assembly.{width_eight}
 use Rattle.sampler_state.proofs.assembly.data_weight.Goals as goal

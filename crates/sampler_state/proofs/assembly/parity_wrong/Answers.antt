@@ -1,6 +1,5 @@
 -- `parity_wrong` meets its contract: each way through the tests is the definition's; a power of two is no zero to divide by. Assumes nothing.
 use lib.Pow.{pow_pos}
-use borrow.Author.Rules.{rules}
 use Rattle.format.proofs.Laws.{steps}
 use Rattle.sampler_state.specs.Assembly.{parity_wrong_of}
 use Rattle.sampler_state.proofs.assembly.parity_wrong.Goals as goal

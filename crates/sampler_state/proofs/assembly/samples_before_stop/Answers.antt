@@ -1,7 +1,6 @@
 -- `samples_before_stop` meets its contract: at most eight data bits, so that one more is still a byte. Assumes nothing.
 use Prim.Native.Nat.{◌≤◌}
 use native.Mathlib.Omega.{arith}
-use borrow.Author.Rules.{rules}
 use Rattle.format.proofs.Laws.{steps}
 use Rattle.sampler_state.specs.Assembly.{samples_of}
 use Rattle.sampler_state.proofs.Laws.Assembly.{width_eight}

@@ -1,5 +1,4 @@
 -- `after_stop` meets its contract: each way through the tests is the definition's, with the callee's sampler. Assumes nothing.
-use borrow.Author.Rules.{rules}
 use Rattle.format.proofs.Laws.{steps}
 use Rattle.sampler_state.specs.State.{after_stop}
 use Rattle.sampler_state.proofs.state.after_stop.Goals as goal

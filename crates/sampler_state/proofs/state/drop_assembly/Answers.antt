@@ -1,5 +1,4 @@
 -- `drop_assembly` meets its contract: the sampler is the callee's. Assumes nothing.
-use borrow.Author.Rules.{rules}
 use Rattle.sampler_state.proofs.state.drop_assembly.Goals as goal
 
 pub returns : goal.returns

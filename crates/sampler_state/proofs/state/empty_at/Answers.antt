@@ -1,5 +1,4 @@
 -- `empty_at` meets its contract: the setting is the callee's. Assumes nothing.
-use borrow.Author.Rules.{rules}
 use Rattle.sampler_state.proofs.state.empty_at.Goals as goal
 
 pub returns : goal.returns

@@ -1,5 +1,4 @@
 -- `hunting_after` meets its contract: the sampler is the callee's. Assumes nothing.
-use borrow.Author.Rules.{rules}
 use Rattle.sampler_state.proofs.state.hunting_after.Goals as goal
 
 pub returns : goal.returns

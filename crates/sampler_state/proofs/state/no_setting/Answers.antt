@@ -1,5 +1,4 @@
 -- `no_setting` meets its contract: the format is the callee's. Assumes nothing.
-use borrow.Author.Rules.{rules}
 use Rattle.sampler_state.proofs.state.no_setting.Goals as goal
 
 pub returns : goal.returns

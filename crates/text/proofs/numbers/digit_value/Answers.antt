@@ -1,5 +1,4 @@
 -- `digit_value` meets its contract. Assumes nothing.
-use mathlib.Core.Path.{refl}
 use native.Mathlib.Omega.{arith}
 use Rattle.text.proofs.numbers.digit_value.Goals as goal
 

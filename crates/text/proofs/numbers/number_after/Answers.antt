@@ -1,5 +1,4 @@
 -- `number_after` meets its contract: each way through the test is the definition's. Assumes nothing.
-use borrow.Author.Rules.{rules}
 use Rattle.format.proofs.Laws.{steps}
 use Rattle.text.specs.Numbers.{number_after}
 use Rattle.text.proofs.numbers.number_after.Goals as goal

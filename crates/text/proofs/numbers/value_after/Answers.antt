@@ -1,5 +1,4 @@
 -- `value_after` meets its contract: each way through the tests is the definition's, where the digit is `digit_value`'s. Assumes nothing.
-use borrow.Author.Rules.{rules}
 use Rattle.format.proofs.Laws.{steps}
 use Rattle.text.specs.Numbers.{value_after}
 use Rattle.text.proofs.numbers.value_after.Goals as goal

@@ -3,7 +3,7 @@ use mathlib.Core.Path.{refl, sym}
 use native.Mathlib.Omega.{arith}
 use Rattle.text.proofs.Laws.Decimal.{decimal_none, decimal_last, decimal_more, decimal_within}
 use Rattle.text.proofs.Laws.Puts.{puts_none, puts_one, puts_then, puts_as}
-use Prim.Native.Nat.{ℕ, ◌-◌, ◌/◌}
+use Prim.Native.Nat.{◌-◌, ◌/◌}
 use Rattle.text.proofs.putting.+put_decimal.Goals as goal
 
 pub returns-then-places-eq0 : goal.returns-then-places-eq0

@@ -1,9 +1,6 @@
 -- `put` meets its contract: a place that the space does not have is not stored. Assumes nothing.
 use mathlib.Core.Path.{sym}
 use lib.Seq.{set_out}
-use borrow.Author.Rules.{rules}
-use Rattle.text.proofs.putting.put.Reads as reads
-use Rattle.text.proofs.putting.put.Lts as lts
 use Rattle.text.proofs.putting.put.Goals as goal
 
 -- src/putting.rt:9:1

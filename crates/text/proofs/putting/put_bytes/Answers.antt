@@ -1,14 +1,12 @@
 -- `put_bytes` meets its contract: byte by byte, each at its own place. Assumes nothing.
-use Prim.Native.Nat.{ℕ, ◌+◌, ◌-◌, ◌≤◌, ◌<◌}
+use Prim.Native.Nat.{ℕ, ◌+◌, ◌<◌}
 use mathlib.Core.Path.{◌≡◌, refl, sym}
 use mathlib.Core.List.{List, [], ◌∷◌, ◌++◌}
 use native.Mathlib.Numerals.{add-one}
 use native.Mathlib.Omega.{arith}
 use lib.ListN.{length, take, get_or}
 use lib.Seq.{take-suc, take_all}
-use Rattle.text.specs.Puts.{Puts}
 use Rattle.text.proofs.Laws.Puts.{puts_one, puts_then, puts_as, puts_length}
-use borrow.Author.Rules.{rules}
 use Rattle.text.proofs.putting.put_bytes.Goals as goal
 
 one_more : (l : List ℕ) (i : ℕ) → i < length l → take i l ++ get_or l i 0 ∷ [] ≡ take (i + 1) l

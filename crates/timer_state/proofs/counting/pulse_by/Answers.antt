@@ -1,5 +1,4 @@
 -- `pulse_by` meets its contract: each way through the tests is the definition's, with the callee's answer. Assumes nothing.
-use borrow.Author.Rules.{rules}
 use Rattle.format.proofs.Laws.{steps}
 use Rattle.timer_state.specs.Counting.{pulsed_by}
 use Rattle.timer_state.proofs.counting.pulse_by.Goals as goal

@@ -1,5 +1,4 @@
 -- `pulse_timer` meets its contract: each way through the tests is the definition's, with the callee's answer. Assumes nothing.
-use borrow.Author.Rules.{rules}
 use Rattle.format.proofs.Laws.{steps}
 use Rattle.timer_state.specs.Counting.{timer_pulsed}
 use Rattle.timer_state.proofs.counting.pulse_timer.Goals as goal

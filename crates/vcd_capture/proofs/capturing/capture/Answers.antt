@@ -1,7 +1,6 @@
 -- `capture` meets its contract: the part is that of the log which the channel names. Assumes nothing.
 use mathlib.Core.Path.{◌∙◌}
 use Rattle.vcd_capture.proofs.Laws.Capture.{part-a, part-b}
-use borrow.Author.Rules.{rules}
 use Rattle.vcd_capture.proofs.capturing.capture.Goals as goal
 
 pub slice_bounds-result-end : goal.slice_bounds-result-end

@@ -9,8 +9,6 @@ use Rattle.text.proofs.Laws.Puts.{puts_as}
 use Rattle.vcd_read.specs.Scan.{scan_of}
 use Rattle.vcd_capture.specs.Capture.{log_a, log_b}
 use Rattle.vcd_capture.proofs.Laws.Capture.{from_start, heard_is, five, by-text, eight, none, refused, accepted}
-use borrow.Author.Rules.{rules}
-use Rattle.format.proofs.mr1_not_modelled.Reads as mr1-not-modelled-reads
 use Rattle.vcd_capture.proofs.capturing.read_capture.Goals as goal
 
 pub returns-then-mr1_not_modelled-asked : goal.returns-then-mr1_not_modelled-asked
@@ -65,27 +63,20 @@ returns c =
     let wrote-b = c in
     let wrote-a = wrote-b in
     let room = wrote-a in
-    let second = room in
-    let one = second in
-    let last = one in
-    let test = last in
-    let read = test in
-    let mode = read in
-    let start = mode in
-    let x = start.args in
+    let x = room.args in
     let text = x.text.now in
     let a = x.name_a.now in
     let b = x.name_b.now in
     let la = x.log_a.now in
     let lb = x.log_b.now in
-    let found = read.scan-found.ensures.0 in
-    let m : (mr1_not_modelled x.asked.mr1 || ltb 12 x.asked.code) ≡ false = rw (← mode.mr1_not_modelled.ensures) mode.if-mr1_not_modelled-asked.false in
-    let inside : (scan_of text a b).number ≡ 0 = rw (← found) test.if-found-ne0.false in
-    let logs = heard_is x.asked text a b _ _ _ _ last.period_of-period.ensures last.setting_of-setting.ensures last.end_of-end.ensures.0 found in
-    let na : one.hear_wire-length_a.result ≡ length (log_a x.asked text a b) =
-    from_start (rw logs.0 at one.hear_wire-length_a.ensures.ends) in
-    let nb : second.hear_wire-length_b.result ≡ length (log_b x.asked text a b) =
-    from_start (rw logs.1 at second.hear_wire-length_b.ensures.ends) in
+    let found = room.scan-found.ensures.0 in
+    let m : (mr1_not_modelled x.asked.mr1 || ltb 12 x.asked.code) ≡ false = rw (← room.mr1_not_modelled.ensures) room.if-mr1_not_modelled-asked.false in
+    let inside : (scan_of text a b).number ≡ 0 = rw (← found) room.if-found-ne0.false in
+    let logs = heard_is x.asked text a b _ _ _ _ room.period_of-period.ensures room.setting_of-setting.ensures room.end_of-end.ensures.0 found in
+    let na : room.hear_wire-length_a.result ≡ length (log_a x.asked text a b) =
+    from_start (rw logs.0 at room.hear_wire-length_a.ensures.ends) in
+    let nb : room.hear_wire-length_b.result ≡ length (log_b x.asked text a b) =
+    from_start (rw logs.1 at room.hear_wire-length_b.ensures.ends) in
     let fits : (ltb (length la) (length (log_a x.asked text a b)) || ltb (length lb) (length (log_b x.asked text a b))) ≡ false = rw (← na, ← nb) room.if-log_a-length_a.false in
     accepted x.asked text a b la lb _ _ _ _ na nb (none x.asked text a b la lb m inside fits) fits _ _
     (puts_as logs.0 wrote-a.hear_wire.ensures) (puts_as logs.1 wrote-b.hear_wire-2.ensures)

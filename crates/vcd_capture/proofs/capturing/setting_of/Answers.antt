@@ -1,6 +1,5 @@
 -- `setting_of` meets its contract. Assumes nothing.
 use Rattle.vcd_capture.specs.Capture.{setting_of}
-use borrow.Author.Rules.{rules}
 use Rattle.vcd_capture.proofs.capturing.setting_of.Goals as goal
 
 pub returns : goal.returns

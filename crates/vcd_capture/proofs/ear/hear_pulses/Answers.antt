@@ -1,15 +1,13 @@
 -- `hear_pulses` meets its contract. The invariant of its loop: the pulses that are left lead to the end that is asked. Assumes nothing.
-use Prim.Native.Nat.{◌+◌, ◌-◌, ◌*◌, ◌≤◌}
+use Prim.Native.Nat.{◌-◌}
 use mathlib.Core.Path.{◌≡◌, refl, sym, ◌∙◌, ap}
 use native.Mathlib.Omega.{arith}
-use lib.ListN.{length}
-use Rattle.sampler.specs.Lines.{after_lines, list_of, arrivals}
-use Rattle.text.proofs.Laws.Puts.{puts_length, Left, left_all, left_as, left_then, left_none}
+use Rattle.sampler.specs.Lines.{list_of, arrivals}
+use Rattle.text.proofs.Laws.Puts.{puts_length, left_all, left_as, left_then, left_none}
 use Rattle.vcd_capture.specs.Logs.{log_bytes}
 use Rattle.vcd_capture.specs.Ear.{pulses_at}
 use Rattle.vcd_capture.proofs.Laws.Hops.{hop-turn}
 use Rattle.vcd_capture.proofs.Laws.Hearing.{log_append, log_length, came_within, no_after, no_arrivals}
-use borrow.Author.Rules.{rules}
 use Rattle.vcd_capture.proofs.ear.hear_pulses.Goals as goal
 
 pub loop-left-init : goal.loop-left-init

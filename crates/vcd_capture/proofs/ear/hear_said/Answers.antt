@@ -4,7 +4,6 @@ use native.Mathlib.Omega.{arith}
 use Rattle.text.proofs.Laws.Puts.{puts_none, puts_as}
 use Rattle.vcd_capture.specs.Ear.{ear_said, heard_said}
 use Rattle.vcd_capture.proofs.Laws.Hearing.{log_none}
-use borrow.Author.Rules.{rules}
 use Rattle.vcd_capture.proofs.ear.hear_said.Goals as goal
 
 pub hear_until-requires : goal.hear_until-requires

@@ -5,7 +5,6 @@ use native.Mathlib.Omega.{arith}
 use Rattle.text.proofs.Laws.Puts.{puts_as}
 use Rattle.vcd_capture.specs.Ear.{pulses_before, ear_until, heard_until}
 use Rattle.vcd_capture.proofs.Laws.Hearing.{pulses_within}
-use borrow.Author.Rules.{rules}
 use Rattle.vcd_capture.proofs.ear.hear_until.Goals as goal
 
 pub hear_pulses-heard-requires : goal.hear_pulses-heard-requires

@@ -1,16 +1,11 @@
 -- `hear_wire` meets its contract. The invariant of its loop: the bytes that are left lead to the log that is asked. Assumes nothing.
 use Prim.Native.Nat.{◌-◌, ◌*◌, ◌^◌, ◌≤◌, ◌<◌}
-use mathlib.Core.Path.{◌≡◌, refl, ◌∙◌}
-use mathlib.Core.Bool.{true}
-use native.Mathlib.Omega.{arith}
-use lib.ListN.{length, drop, get_or}
-use Rattle.text.proofs.Laws.Puts.{puts_length, Left, left_all, left_as, left_then, left_last}
-use Rattle.vcd_lines.specs.Body.{started, said_of}
-use Rattle.vcd_read.proofs.Laws.Checking.{time_within}
+use mathlib.Core.Path.{◌≡◌}
+use lib.ListN.{length, drop}
+use Rattle.text.proofs.Laws.Puts.{Left}
+use Rattle.vcd_lines.specs.Body.{started}
 use Rattle.vcd_capture.specs.Logs.{log_bytes}
-use Rattle.vcd_capture.specs.Ear.{heard_said, heard_from, just_enabled}
-use Rattle.vcd_capture.proofs.Laws.Hearing.{said_within, said_fits, heard-next, heard-end}
-use borrow.Author.Rules.{rules}
+use Rattle.vcd_capture.specs.Ear.{heard_from, just_enabled}
 use Rattle.vcd_capture.proofs.ear.hear_wire.Given as goal
 
 abbrev pub invariant-loop-i : goal.invariant-loop-i

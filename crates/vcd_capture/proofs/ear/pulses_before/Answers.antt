@@ -1,7 +1,6 @@
 -- `pulses_before` meets its contract. Assumes nothing.
 use Rattle.format.proofs.Laws.{steps}
 use Rattle.vcd_capture.specs.Ear.{pulses_before}
-use borrow.Author.Rules.{rules}
 use Rattle.vcd_capture.proofs.ear.pulses_before.Goals as goal
 
 pub returns-then-period-eq0 : goal.returns-then-period-eq0

@@ -5,7 +5,6 @@ use Rattle.sampler.specs.Lines.{list_of}
 use Rattle.text.proofs.Laws.Puts.{puts_none, puts_as}
 use Rattle.vcd_capture.specs.Logs.{log_bytes}
 use Rattle.vcd_capture.proofs.Laws.Hearing.{log_none, log_one}
-use borrow.Author.Rules.{rules}
 use Rattle.vcd_capture.proofs.ear.take_came.Goals as goal
 
 pub returns-in-NoCharacter : goal.returns-in-NoCharacter

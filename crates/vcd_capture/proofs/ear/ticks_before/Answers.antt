@@ -1,7 +1,6 @@
 -- `ticks_before` meets its contract. Assumes nothing.
 use mathlib.Core.Path.{refl}
 use Rattle.vcd_capture.specs.Ear.{ticks_before}
-use borrow.Author.Rules.{rules}
 use Rattle.vcd_capture.proofs.ear.ticks_before.Goals as goal
 
 pub returns-then-time-eq0 : goal.returns-then-time-eq0

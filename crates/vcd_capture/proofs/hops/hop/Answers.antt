@@ -3,7 +3,6 @@ use mathlib.Core.Path.{sym, ◌∙◌}
 use native.Mathlib.Omega.{arith}
 use Rattle.vcd_capture.proofs.Laws.Hops.{start-hops, bit-hops, break-hops, hunt-hops, hops_as, one_as}
 use Rattle.vcd_capture.proofs.Laws.Hops.{sample-starts, sample-bit, sample-follows, sample-waits, sample-hunts}
-use borrow.Author.Rules.{rules}
 use Rattle.vcd_capture.proofs.hops.hop.Goals as goal
 
 pub returns-then-left-eq0 : goal.returns-then-left-eq0

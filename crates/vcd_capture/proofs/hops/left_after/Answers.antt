@@ -3,7 +3,6 @@ use Prim.Native.Nat.{◌-◌}
 use mathlib.Core.Path.{◌≡◌, refl}
 use native.Mathlib.Omega.{arith}
 use Rattle.vcd_capture.specs.Hops.{fewer_left}
-use borrow.Author.Rules.{rules}
 use Rattle.vcd_capture.proofs.hops.left_after.Goals as goal
 
 pub returns-then-most-left : goal.returns-then-most-left

@@ -2,7 +2,6 @@
 use borrow.Author.Tests.{lt-ltb, le-ltb}
 use Rattle.format.specs.Pick.{pick}
 use Rattle.vcd_capture.specs.Hops.{fewer}
-use borrow.Author.Rules.{rules}
 use Rattle.vcd_capture.proofs.hops.pass.Goals as goal
 
 pub returns-then-most-left : goal.returns-then-most-left

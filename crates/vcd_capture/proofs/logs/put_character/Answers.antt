@@ -5,7 +5,6 @@ use mathlib.Core.List.{[], ◌∷◌}
 use native.Mathlib.Omega.{arith}
 use Rattle.text.proofs.Laws.Puts.{puts_one, puts_then, puts_as}
 use Rattle.vcd_capture.specs.Logs.{character_bytes}
-use borrow.Author.Rules.{rules}
 use Rattle.vcd_capture.proofs.logs.put_character.Goals as goal
 
 pub returns : goal.returns

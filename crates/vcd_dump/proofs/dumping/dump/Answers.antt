@@ -6,7 +6,6 @@ use native.Mathlib.Omega.{arith}
 use lib.ListN.{length}
 use Rattle.vcd_dump.specs.Dump.{text_of}
 use Rattle.vcd_dump.proofs.Laws.Answers.{one, nine, eight, none, refused, accepted}
-use borrow.Author.Rules.{rules}
 use Rattle.vcd_dump.proofs.dumping.dump.Goals as goal
 
 pub returns-then-not-is_sound : goal.returns-then-not-is_sound

@@ -4,7 +4,6 @@ use Rattle.format.specs.Pick.{pick}
 use Rattle.format.proofs.Laws.Pick.{pick_yes, pick_no}
 use Rattle.text.proofs.Laws.Puts.{puts_none, puts_as}
 use Rattle.vcd_dump.specs.Wave.{wave_after}
-use borrow.Author.Rules.{rules}
 use Rattle.vcd_dump.proofs.waves.add_event.Goals as goal
 
 pub returns-then-tick : goal.returns-then-tick

@@ -1,15 +1,12 @@
 -- `write_waves` meets its contract. The invariant of its loop: what is left of the text leads to the whole. Assumes nothing.
-use Prim.Native.Nat.{◌+◌, ◌-◌, ◌/◌, ◌^◌, ◌≤◌, ◌<◌}
-use mathlib.Core.Path.{◌≡◌, refl, sym, ◌∙◌, ap}
+use mathlib.Core.Path.{refl, ◌∙◌, ap}
 use native.Mathlib.Omega.{arith}
-use lib.ListN.{length}
-use borrow.Author.Rules.{rules}
 use Rattle.chip_step.specs.Chip.{step_of}
 use Rattle.chip_fast.proofs.Laws.Ticked.{sound_answer_lem}
 use Rattle.text.proofs.Laws.Puts.{puts_then, puts_as, puts_length, left_all}
 use Rattle.vcd_text.proofs.Examples.{header_length}
 use Rattle.vcd_dump.proofs.Laws.Rest.{text_is}
-use Rattle.vcd_dump.proofs.Laws.Stands.{Stands, small, stands_on, stands-refused, stands-end}
+use Rattle.vcd_dump.proofs.Laws.Stands.{small, stands_on, stands-refused, stands-end}
 use Rattle.vcd_dump.proofs.waves.write_waves.Goals as goal
 
 pub loop-i-init : goal.loop-i-init

@@ -1,6 +1,5 @@
 use Rattle.format.proofs.Laws.{steps}
 use Rattle.vcd_lines.specs.Body.{begun}
-use borrow.Author.Rules.{rules}
 use Rattle.vcd_lines.proofs.body.begin.Goals as goal
 
 pub returns-then-byte-eq35 : goal.returns-then-byte-eq35

@@ -1,6 +1,5 @@
 use Rattle.format.proofs.Laws.{steps}
 use Rattle.vcd_lines.specs.Body.{first_digit}
-use borrow.Author.Rules.{rules}
 use Rattle.vcd_lines.proofs.body.first_digit.Goals as goal
 
 pub returns-then-byte-eq48 : goal.returns-then-byte-eq48

@@ -1,6 +1,5 @@
 use Rattle.format.proofs.Laws.{steps}
 use Rattle.vcd_lines.specs.Body.{must_end}
-use borrow.Author.Rules.{rules}
 use Rattle.vcd_lines.proofs.body.must_end.Goals as goal
 
 pub returns-then-byte-eq10 : goal.returns-then-byte-eq10

@@ -1,6 +1,5 @@
 use Rattle.format.proofs.Laws.{steps}
 use Rattle.vcd_lines.specs.Body.{next_digit}
-use borrow.Author.Rules.{rules}
 use Rattle.vcd_lines.proofs.body.next_digit.Goals as goal
 
 pub returns-then-time-le4000000000 : goal.returns-then-time-le4000000000

@@ -1,7 +1,6 @@
 use Rattle.format.proofs.Laws.{steps}
 use Rattle.format.specs.Pick.{pick}
 use Rattle.vcd_lines.specs.Body.{taken_of}
-use borrow.Author.Rules.{rules}
 use Rattle.vcd_lines.proofs.body.take.Goals as goal
 
 pub returns-in-0 : goal.returns-in-0

@@ -1,6 +1,5 @@
 use Rattle.format.proofs.Laws.{steps}
 use Rattle.vcd_lines.specs.Body.{coded}
-use borrow.Author.Rules.{rules}
 use Rattle.vcd_lines.proofs.body.take_code.Goals as goal
 
 pub returns-then-known : goal.returns-then-known

@@ -1,6 +1,5 @@
 -- `add_said` meets its contract, line by line. Assumes nothing.
 use Rattle.vcd_read.specs.Scan.{times_said}
-use borrow.Author.Rules.{rules}
 use Rattle.vcd_read.proofs.checking.add_said.Goals as goal
 
 pub returns-in-NoLine : goal.returns-in-NoLine

@@ -1,6 +1,5 @@
 -- `check_byte` meets its contract: the reading and the times, each by one byte more. Assumes nothing.
 use Rattle.vcd_read.specs.Scan.{checked_by}
-use borrow.Author.Rules.{rules}
 use Rattle.vcd_read.proofs.checking.check_byte.Goals as goal
 
 pub returns : goal.returns

@@ -1,11 +1,8 @@
 -- `check_from` meets its contract. The invariant of its loop: the bytes that are left lead to the end that is asked. Assumes nothing.
-use Prim.Native.Nat.{◌-◌, ◌≤◌}
-use mathlib.Core.Path.{◌≡◌, sym, ◌∙◌}
+use mathlib.Core.Path.{sym, ◌∙◌}
 use native.Mathlib.Omega.{arith}
-use lib.ListN.{length, drop}
-use Rattle.vcd_read.specs.Scan.{in_table, checked_of, unchecked}
+use Rattle.vcd_read.specs.Scan.{in_table}
 use Rattle.vcd_read.proofs.Laws.Checking.{checked_next, checked_end}
-use borrow.Author.Rules.{rules}
 use Rattle.vcd_read.proofs.checking.check_from.Goals as goal
 
 pub loop-i-init : goal.loop-i-init

@@ -1,11 +1,8 @@
 -- `check_from` meets its contract. The invariant of its loop: the bytes that are left lead to the end that is asked. Assumes nothing.
 use Prim.Native.Nat.{◌-◌, ◌≤◌}
-use mathlib.Core.Path.{◌≡◌, sym, ◌∙◌}
-use native.Mathlib.Omega.{arith}
+use mathlib.Core.Path.{◌≡◌}
 use lib.ListN.{length, drop}
 use Rattle.vcd_read.specs.Scan.{in_table, checked_of, unchecked}
-use Rattle.vcd_read.proofs.Laws.Checking.{checked_next, checked_end}
-use borrow.Author.Rules.{rules}
 use Rattle.vcd_read.proofs.checking.check_from.Given as goal
 
 abbrev pub invariant-loop-i : goal.invariant-loop-i

@@ -1,13 +1,8 @@
 -- `fill_codes` meets its contract. The invariant of its loop: the wires that are left fill the rest. Assumes nothing.
-use Prim.Native.Nat.{suc, ◌+◌, ◌-◌, ◌≤◌}
-use mathlib.Core.Path.{◌≡◌, refl, sym, ◌∙◌}
-use native.Mathlib.Omega.{arith}
-use lib.ListN.{length, drop, length-set}
-use borrow.Author.Tests.{not-true, not-false}
+use Prim.Native.Nat.{◌-◌, ◌≤◌}
+use mathlib.Core.Path.{◌≡◌}
+use lib.ListN.{length, drop}
 use Rattle.vcd_read.specs.Wires.{wires_of, filled}
-use Rattle.vcd_read.proofs.Laws.Wires.{told_here, told_none, wires_none, wires_zero, filled_next}
-use Rattle.vcd_read.proofs.Laws.Wires.{none_filled}
-use borrow.Author.Rules.{rules}
 use Rattle.vcd_read.proofs.named.fill_codes.Given as goal
 
 abbrev pub invariant-loop-n : goal.invariant-loop-n

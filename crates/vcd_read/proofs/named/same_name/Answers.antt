@@ -1,6 +1,5 @@
 -- `same_name` meets its contract: the lengths first, and then the bytes. Assumes nothing.
 use borrow.Author.Tests.{eq-eqb, ne_eqb}
-use borrow.Author.Rules.{rules}
 use Rattle.vcd_read.proofs.named.same_name.Goals as goal
 
 pub returns-then-name-size : goal.returns-then-name-size

@@ -1,7 +1,6 @@
 -- `judge` meets its contract: each test is the definition's. Assumes nothing.
 use Rattle.format.proofs.Laws.{steps}
 use Rattle.vcd_read.specs.Scan.{judged}
-use borrow.Author.Rules.{rules}
 use Rattle.vcd_read.proofs.scanning.judge.Goals as goal
 
 pub returns-then-times : goal.returns-then-times

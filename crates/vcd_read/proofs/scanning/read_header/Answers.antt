@@ -10,7 +10,6 @@ use Rattle.vcd_read.specs.declared.wires.Wires.{Wires}
 use Rattle.vcd_read.specs.Wires.{starts}
 use Rattle.vcd_read.specs.Scan.{open_words, close_words, wires_in, wires_over}
 use Rattle.vcd_read.proofs.Laws.Header.{opened, closed, not_opened, not-sixteen, not-once, not-closed, not_named, all_there}
-use borrow.Author.Rules.{rules}
 use Rattle.vcd_read.proofs.scanning.read_header.Goals as goal
 
 pub returns-then-not-starts_at : goal.returns-then-not-starts_at

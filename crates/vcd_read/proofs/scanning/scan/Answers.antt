@@ -3,7 +3,6 @@ use mathlib.Core.Path.{◌∙◌}
 use native.Mathlib.Omega.{arith}
 use borrow.Author.Tests.{not-true, not-false}
 use Rattle.vcd_read.proofs.Laws.Header.{header_open, not_inside, is_inside, judged_body}
-use borrow.Author.Rules.{rules}
 use Rattle.vcd_read.proofs.scanning.scan.Goals as goal
 
 pub returns-then-not-header : goal.returns-then-not-header

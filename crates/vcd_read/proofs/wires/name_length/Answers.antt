@@ -1,11 +1,8 @@
 -- `name_length` meets its contract. The invariant of its loop: those counted, and those that are left, are the name. Assumes nothing.
-use Prim.Native.Nat.{◌+◌, ◌-◌, ◌≤◌}
+use Prim.Native.Nat.{◌+◌}
 use mathlib.Core.Path.{◌≡◌, sym, ◌∙◌}
 use native.Mathlib.Omega.{arith}
-use lib.ListN.{length, drop}
-use Rattle.vcd_read.specs.Wires.{name_of}
 use Rattle.vcd_read.proofs.Laws.Starts.{name-over, name-ends, name-on, name-full}
-use borrow.Author.Rules.{rules}
 use Rattle.vcd_read.proofs.wires.name_length.Goals as goal
 
 pub loop-n-init : goal.loop-n-init

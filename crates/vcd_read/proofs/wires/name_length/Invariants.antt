@@ -1,12 +1,8 @@
 -- `name_length` meets its contract. The invariant of its loop: those counted, and those that are left, are the name. Assumes nothing.
 use Prim.Native.Nat.{◌+◌, ◌-◌, ◌≤◌}
-use mathlib.Core.Path.{◌≡◌, sym, ◌∙◌}
-use native.Mathlib.Omega.{arith}
+use mathlib.Core.Path.{◌≡◌}
 use lib.ListN.{length, drop}
-use borrow.Author.Tests.{not-true, not-false}
 use Rattle.vcd_read.specs.Wires.{name_of}
-use Rattle.vcd_read.proofs.Laws.Starts.{name-over, name-ends, name-on, name-full}
-use borrow.Author.Rules.{rules}
 use Rattle.vcd_read.proofs.wires.name_length.Given as goal
 
 abbrev pub invariant-loop-n : goal.invariant-loop-n

@@ -1,11 +1,8 @@
 -- `starts_at` meets its contract. The invariant of its loop: what is left to compare decides. Assumes nothing.
-use Prim.Native.Nat.{◌+◌, ◌-◌, ◌≤◌}
+use Prim.Native.Nat.{◌+◌}
 use mathlib.Core.Path.{◌≡◌, sym, ◌∙◌}
 use native.Mathlib.Omega.{arith}
-use lib.ListN.{length, drop}
-use Rattle.vcd_read.specs.Wires.{starts}
 use Rattle.vcd_read.proofs.Laws.Starts.{starts-over, starts_other, starts-on, starts-all}
-use borrow.Author.Rules.{rules}
 use Rattle.vcd_read.proofs.wires.starts_at.Goals as goal
 
 pub loop-i-init : goal.loop-i-init

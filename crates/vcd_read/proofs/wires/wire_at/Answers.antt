@@ -12,7 +12,6 @@ use Rattle.vcd_text.specs.Header.{line_of}
 use Rattle.vcd_read.specs.Wires.{starts, visible, name_of, end_words, name_here}
 use Rattle.vcd_read.proofs.Laws.Starts.{starts_within}
 use Rattle.vcd_read.proofs.Laws.Wires.{other_words, no_code, too_short, no_name, no_end, wire_is, wire_here_lem, name_within}
-use borrow.Author.Rules.{rules}
 use Rattle.vcd_read.proofs.wires.wire_at.Goals as goal
 
 -- what is looked at in the text is what is looked at from the place on

@@ -1,15 +1,8 @@
 -- `wires_at` meets its contract. The invariant of its loop: those counted, and those that are left, are all. Assumes nothing.
-use Prim.Native.Nat.{ℕ, suc, ◌+◌, ◌-◌, ◌≤◌}
-use mathlib.Core.Path.{◌≡◌, refl, sym, ◌∙◌, ap}
-use native.Mathlib.Omega.{arith}
-use lib.ListN.{length, drop, length-drop}
-use lib.Seq.{drop-drop}
-use borrow.Author.Tests.{not-true, not-false}
-use Rattle.vcd_read.specs.declared.wires.WireAt.{WireAt}
-use Rattle.vcd_read.specs.declared.wires.Wires.{Wires}
-use Rattle.vcd_read.specs.Wires.{wire_end, wires_of, wires_end}
-use Rattle.vcd_read.proofs.Laws.Wires.{here_is, wire_here_lem, wire_within, wires_none, wires_zero, wires_next}
-use borrow.Author.Rules.{rules}
+use Prim.Native.Nat.{◌+◌, ◌-◌, ◌≤◌}
+use mathlib.Core.Path.{◌≡◌}
+use lib.ListN.{length, drop}
+use Rattle.vcd_read.specs.Wires.{wires_of, wires_end}
 use Rattle.vcd_read.proofs.wires.wires_at.Given as goal
 
 abbrev pub invariant-loop-count : goal.invariant-loop-count

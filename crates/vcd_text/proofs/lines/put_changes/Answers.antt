@@ -4,7 +4,6 @@ use native.Mathlib.Omega.{arith}
 use Rattle.text.proofs.Laws.Puts.{puts_none, puts_then, puts_as}
 use Rattle.vcd_text.proofs.Laws.Changes.{time_within}
 use Rattle.vcd_text.proofs.Laws.Words.{first_changes, no_changes, some_changes}
-use borrow.Author.Rules.{rules}
 use Rattle.vcd_text.proofs.lines.put_changes.Goals as goal
 
 pub put_values-requires : goal.put_values-requires

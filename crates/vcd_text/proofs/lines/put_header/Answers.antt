@@ -1,7 +1,6 @@
 -- `put_header` meets its contract: its bytes are the definition's, computed. Assumes nothing.
 use Rattle.text.specs.Bytes.{bytes_of}
 use Rattle.vcd_text.specs.Header.{line_of, wire_line, wire_lines, header_of, wires_from, chip_wires}
-use borrow.Author.Rules.{rules}
 use Rattle.vcd_text.proofs.lines.put_header.Goals as goal
 
 pub returns : goal.returns

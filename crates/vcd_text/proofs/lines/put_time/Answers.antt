@@ -7,7 +7,6 @@ use Rattle.text.specs.Decimal.{decimal_of}
 use Rattle.text.proofs.Laws.Decimal.{decimal_within}
 use Rattle.text.proofs.Laws.Puts.{puts_one, puts_then, puts_as}
 use Rattle.vcd_text.specs.Lines.{line_text}
-use borrow.Author.Rules.{rules}
 use Rattle.vcd_text.proofs.lines.put_time.Goals as goal
 
 pub overflow_add-result : goal.overflow_add-result

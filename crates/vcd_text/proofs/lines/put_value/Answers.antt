@@ -6,7 +6,6 @@ use native.Mathlib.Omega.{arith}
 use Rattle.format.proofs.Laws.Pick.{pick_yes, pick_no}
 use Rattle.text.proofs.Laws.Puts.{puts_none, puts_one, puts_then, puts_as}
 use Rattle.vcd_text.specs.Lines.{line_text}
-use borrow.Author.Rules.{rules}
 use Rattle.vcd_text.proofs.lines.put_value.Goals as goal
 
 pub returns-then-changed : goal.returns-then-changed

@@ -1,21 +1,17 @@
 -- `put_values` meets its contract. The invariant of its loop: the lines of the wires that are left lead to the end that is asked. A turn puts the
 -- line of the next wire, if it has one. Assumes nothing.
-use Prim.Native.Nat.{ℕ, suc, ◌+◌, ◌*◌, ◌-◌, ◌%◌, ◌≤◌}
-use mathlib.Core.Path.{◌≡◌, refl, sym, ◌∙◌, ap}
+use Prim.Native.Nat.{ℕ, suc, ◌+◌, ◌-◌, ◌%◌, ◌≤◌}
+use mathlib.Core.Path.{◌≡◌, refl, ◌∙◌}
 use native.Mathlib.Omega.{arith}
 use mathlib.Core.Bool.{Bool, not, ◌||◌}
 use mathlib.Core.List.{List, []}
 use lib.Dec.{eqb}
-use lib.ListN.{length}
-use Rattle.format.specs.Digits.{bits_of}
 use Rattle.format.specs.Pick.{pick}
 use Rattle.text.specs.Puts.{Puts}
-use Rattle.text.proofs.Laws.Puts.{Left, left_all, left_as, left_then, left_none, puts_length}
-use Rattle.vcd_text.specs.Changes.{value_line, value_lines}
-use Rattle.vcd_text.specs.Words.{written_before}
+use Rattle.text.proofs.Laws.Puts.{left_all, left_as, left_then, left_none, puts_length}
+use Rattle.vcd_text.specs.Changes.{value_line}
 use Rattle.vcd_text.proofs.Laws.Changes.{value_within}
 use Rattle.vcd_text.proofs.Laws.Words.{next_wire, no_wire}
-use borrow.Author.Rules.{rules}
 use Rattle.vcd_text.proofs.lines.put_values.Goals as goal
 
 value-ends : {at end : ℕ} {s t : List ℕ} (changed : Bool) (code : ℕ) (level : Bool) → Puts at (pick changed (value_line code level) []) s t end → end ≤ at + 3

@@ -1,21 +1,12 @@
 -- `put_values` meets its contract. The invariant of its loop: the lines of the wires that are left lead to the end that is asked. A turn puts the
 -- line of the next wire, if it has one. Assumes nothing.
-use Prim.Native.Nat.{ℕ, suc, ◌+◌, ◌*◌, ◌-◌, ◌%◌, ◌≤◌}
-use mathlib.Core.Path.{◌≡◌, refl, sym, ◌∙◌, ap}
-use native.Mathlib.Omega.{arith}
-use mathlib.Core.Bool.{Bool, not, ◌||◌}
-use mathlib.Core.List.{List, []}
-use lib.Dec.{eqb}
+use Prim.Native.Nat.{◌+◌, ◌*◌, ◌-◌, ◌≤◌}
+use mathlib.Core.Path.{◌≡◌}
 use lib.ListN.{length}
 use Rattle.format.specs.Digits.{bits_of}
-use Rattle.format.specs.Pick.{pick}
-use Rattle.text.specs.Puts.{Puts}
-use Rattle.text.proofs.Laws.Puts.{Left, left_all, left_as, left_then, left_none, puts_length}
-use Rattle.vcd_text.specs.Changes.{value_line, value_lines}
+use Rattle.text.proofs.Laws.Puts.{Left}
+use Rattle.vcd_text.specs.Changes.{value_lines}
 use Rattle.vcd_text.specs.Words.{written_before}
-use Rattle.vcd_text.proofs.Laws.Changes.{value_within}
-use Rattle.vcd_text.proofs.Laws.Words.{next_wire, no_wire}
-use borrow.Author.Rules.{rules}
 use Rattle.vcd_text.proofs.lines.put_values.Given as goal
 
 abbrev pub invariant-loop-code : goal.invariant-loop-code
