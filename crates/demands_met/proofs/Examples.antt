@@ -22,7 +22,6 @@ use Rattle.clocks.specs.Pulses.Side.{receives, transmits}
 use Rattle.timer.specs.Modes.{timer_in}
 use Rattle.format.specs.Pick.{pick}
 use Rattle.queue.specs.Queue.{held_of}
-use Rattle.clocks.specs.Channel.{side_of}
 use Rattle.byte_bits.specs.Bytes.{has_bit}
 use Rattle.front.specs.Front.{front_at}
 use Rattle.chip_device.specs.Device.{fresh_device, is_sound_of}

@@ -9,7 +9,6 @@ use Rattle.events.specs.declared.events.Event.{Event}
 use Rattle.events.specs.declared.events.Event.TheVariants.{Read, Write, Pins, Tick}
 use Rattle.clocks.specs.Pulses.Side.{transmits}
 use Rattle.timer.specs.Modes.{timer_in}
-use Rattle.sampler_hunting.specs.Hunting.{waited}
 use Rattle.transmitter.specs.Frames.{free}
 use Rattle.byte_bits.specs.Bytes.{has_bit}
 use Rattle.demands.specs.Chip.{and_then, shows, status_bit}

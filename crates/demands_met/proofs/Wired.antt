@@ -23,7 +23,6 @@ use Rattle.format.specs.Pick.{pick}
 use Rattle.frame.specs.Levels.{frame}
 use Rattle.queue.specs.Queue.{held_of}
 use Rattle.receiver.specs.Receiver.{fed_of}
-use Rattle.clocks.specs.Channel.{side_of}
 use Rattle.front.specs.Front.{front_at}
 use Rattle.chip_step.specs.Chip.{step_of}
 use Rattle.chip_laws.specs.Sound.{after}
