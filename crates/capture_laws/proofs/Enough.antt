@@ -8,6 +8,7 @@ use native.Mathlib.Omega.{arith}
 use lib.Dec.{eqb, ltb}
 use lib.ListN.{length, length-append}
 use borrow.Author.Tests.{eqb-true, eqb-false, ltb-false}
+use Rattle.std.specs.Prelude.{option_to_list}
 use Rattle.format.specs.declared.format.Format.{Format}
 use Rattle.format.specs.Pick.{pick}
 use Rattle.format.specs.Format.{format_of}
@@ -21,7 +22,7 @@ use Rattle.sampler_state.specs.Assembly.{data_width_of, samples_of}
 use Rattle.sampler_hunting.specs.declared.hunting.Sampled.{Sampled}
 use Rattle.sampler_hunting.specs.Hunting.{low_at, hunted, looked_again, followed, waited}
 use Rattle.sampler.specs.Sampler.{finished, sampled, assembled, sample_of}
-use Rattle.sampler.specs.Lines.{at16, list_of, hears, arrivals}
+use Rattle.sampler.specs.Lines.{at16, hears, arrivals}
 use Rattle.dividers.proofs.Laws.Rates.{period_between}
 use Rattle.vcd_text.specs.Header.{Wire}
 use Rattle.vcd_text.specs.Lines.{Line, times_of, RisesFrom}
@@ -48,7 +49,7 @@ spent s =
 
 -- what a pulse gives, where so many were spent before it
 record Costs (n : ℕ) (r : Sampled) : Type 0 where
-  paid : 105 * length (list_of r.came) + spent r.next ≤ suc n
+  paid : 105 * length (option_to_list r.came) + spent r.next ≤ suc n
   wide : Wide r.next.setting
 
 samples_wide : (f : Format) → 5 ≤ f.width.0 → 5 ≤ (samples_of f).0
@@ -69,7 +70,7 @@ none_wide : Wide no_setting
 none_wide = mr1_wide 0
 
 -- outside a character nothing is spent
-idle : (n : ℕ) (r : Sampled) → list_of r.came ≡ [] → spent r.next ≡ 0 → r.next.setting ≡ no_setting → Costs n r
+idle : (n : ℕ) (r : Sampled) → option_to_list r.came ≡ [] → spent r.next ≡ 0 → r.next.setting ≡ no_setting → Costs n r
 idle n r e z s = record { paid = let none = ap length e in omega arith; wide = rw s none_wide }
 
 low_costs : (n : ℕ) (f : Setting) → Wide f → Costs n (low_at f)
@@ -156,7 +157,7 @@ pulses_cost level period f w (suc n) first s v =
     let r = sample_of s (level (first * period)) f in
     let one = pulse_costs s (level (first * period)) f v w in
     let rest = pulses_cost level period f w n (suc first) r.next one.wide in
-    let both = length-append (list_of r.came) (arrivals r.next (level_pulses level period f (suc first) n)) in
+    let both = length-append (option_to_list r.came) (arrivals r.next (level_pulses level period f (suc first) n)) in
     omega (arith, one.paid, rest, both)
 
 -- ---- the last time ----

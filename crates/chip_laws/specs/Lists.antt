@@ -1,15 +1,13 @@
 -- The chip over list queues: what is held is a list, the oldest first, "At most four are ever held." (demand 3). It
 -- shares the front, the lines and the data byte with the chip as laid out, and differs in its receivers alone. Assumes
 -- nothing.
-use Rattle.std.specs.Prelude.{ℕ, ◌≡◌, Bool, true, false, not, ◌&&◌, ◌||◌, List, [], ◌∷◌, eqb, leb, length}
+use Rattle.std.specs.Prelude.{ℕ, ◌≡◌, Bool, true, false, not, ◌&&◌, ◌||◌, List, [], ◌∷◌, eqb, leb, length, Option, None, Some}
 use Rattle.format.specs.Pick.{pick}
 use Rattle.character.specs.declared.character.Character.{Character}
 use Rattle.character.specs.declared.character.Marks.{Marks}
 use Rattle.character.specs.Character.{no_marks, or_marks}
 use Rattle.sampler_state.specs.declared.state.Sampler.{Sampler}
 use Rattle.sampler_state.specs.State.{hunting}
-use Rattle.sampler_hunting.specs.declared.hunting.Came.{Came}
-use Rattle.sampler_hunting.specs.declared.hunting.Came.TheVariants.{NoCharacter, Arrival}
 use Rattle.sampler_hunting.specs.declared.hunting.Sampled.{Sampled}
 use Rattle.sampler.specs.Sampler.{sample_of}
 use Rattle.sampler.specs.Sound.{sampler_in_range}
@@ -76,9 +74,9 @@ summed [] sums c = or_marks sums c.marks
 summed (x ∷ h) sums c = sums
 
 -- "An arrival goes to the queue of three, or waits when that is full."
-unfoldable pub list_arrived : ListReceiver → Came → ListReceiver
-list_arrived r NoCharacter = r
-list_arrived r (Arrival c) =
+unfoldable pub list_arrived : ListReceiver → Option Character → ListReceiver
+list_arrived r None = r
+list_arrived r (Some c) =
     record {
       sampler = r.sampler;
       held = put r.held c;

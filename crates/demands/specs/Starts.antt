@@ -2,10 +2,10 @@
 -- is confirmed, and of which lines it is `Confirms` says (crate sampler_laws), of what `starts_from` tells of a sampler
 -- run alone. Those are the ledger's starts, and no others. So it is of break change, with `Changes` and `flags_from`.
 -- Assumes nothing.
-use Rattle.std.specs.Prelude.{ℕ, ◌≡◌, Bool, false, ◌||◌, List, [], ◌∷◌, ◌++◌}
+use Rattle.std.specs.Prelude.{ℕ, ◌≡◌, Bool, false, ◌||◌, List, [], ◌∷◌, ◌++◌, Option}
+use Rattle.character.specs.declared.character.Character.{Character}
 use Rattle.sampler_state.specs.declared.state.Sampler.{Sampler}
 use Rattle.sampler_state.specs.State.{hunting}
-use Rattle.sampler_hunting.specs.declared.hunting.Came.{Came}
 use Rattle.sampler.specs.Lines.{Line, hears, after_lines}
 use Rattle.sampler_laws.specs.Sampling.{flags_from}
 use Rattle.sampler_laws.specs.Confirms.{starts_from}
@@ -16,13 +16,13 @@ use Rattle.demands.specs.Delivery.{lines_at, lines_from, fate_of, ledger}
 use Rattle.demands.specs.Received.{changes}
 
 -- what arrives of each line
-abbrev pub cames_from : Sampler → List Line → List Came
+abbrev pub cames_from : Sampler → List Line → List (Option Character)
 cames_from s [] = []
 cames_from s (x ∷ xs) = (hears s x).came ∷ cames_from (hears s x).next xs
 
 -- entries written by the starts and the arrivals that are told, a line at a time: "A confirmed start while one waits
 -- removes the waiting one"
-abbrev pub booked : List Bool → List Came → List Entry → List Entry
+abbrev pub booked : List Bool → List (Option Character) → List Entry → List Entry
 booked [] cs l = l
 booked (b ∷ bs) [] l = l
 booked (b ∷ bs) (c ∷ cs) l = booked bs cs (enters c (starts b l))

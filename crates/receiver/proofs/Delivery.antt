@@ -11,10 +11,9 @@ use borrow.Author.Tests.{le-ltb}
 use Rattle.format.specs.Pick.{pick}
 use Rattle.format.proofs.Laws.Pick.{pick_all}
 use Rattle.character.specs.declared.character.Character.{Character}
-use Rattle.sampler_hunting.specs.declared.hunting.Came.{Came}
-use Rattle.sampler_hunting.specs.declared.hunting.Came.TheVariants.{NoCharacter, Arrival}
+use Rattle.std.specs.Prelude.{Option, None, Some, option_to_list}
 use Rattle.sampler_hunting.specs.declared.hunting.Sampled.{Sampled}
-use Rattle.sampler.specs.Lines.{Line, hears, list_of, arrivals}
+use Rattle.sampler.specs.Lines.{Line, hears, arrivals}
 use Rattle.sampler.specs.Sampler.{sample_of}
 use Rattle.sampler.proofs.Laws.Room.{most_four, grown, Roomy, room_sample}
 use Rattle.queue.specs.declared.queue.Queue.{Queue}
@@ -91,11 +90,11 @@ unfolding started_of pick
 tells_started l r rs true h p = rw (held_without_waiting r.queue h) (tells_overrun 3 (four_held r.queue h) p)
 tells_started l r rs false h p = p
 
-tells_came : (l : List Entry) (r : Receiver) (rs : List Character) (o : Came) → grown o r.queue.count ≤ 4 → Tells l rs (held_of r.queue)
+tells_came : (l : List Entry) (r : Receiver) (rs : List Character) (o : Option Character) → grown o r.queue.count ≤ 4 → Tells l rs (held_of r.queue)
     → Tells (enters o l) rs (held_of (arrived_of r o).queue)
 unfolding arrived_of entered_of
-tells_came l r rs NoCharacter h p = p
-tells_came l r rs (Arrival c) h p = rw (held_put r.queue c (omega arith)) (tells_entered c p)
+tells_came l r rs None h p = p
+tells_came l r rs (Some c) h p = rw (held_put r.queue c (omega arith)) (tells_entered c p)
 
 overran_started : (l : List Entry) (r : Receiver) (rs : List Character) (t : Bool) → r.queue.count ≤ 4 → Tells l rs (held_of r.queue)
     → (r.overrun || ltb (overruns l) (overruns (starts t l))) ≡ (started_of r t).overrun
@@ -103,14 +102,14 @@ unfolding started_of pick
 overran_started l r rs true h p = rw (overruns_grow (four_held r.queue h) p, ← at_least_held r.queue 4 h)
 overran_started l r rs false h p = rw (le-ltb (overruns l) (overruns l) (omega arith), or-false)
 
-overruns_came : (o : Came) (l : List Entry) → overruns (enters o l) ≡ overruns l
-overruns_came NoCharacter l = refl
-overruns_came (Arrival c) l = overruns_entered l c
+overruns_came : (o : Option Character) (l : List Entry) → overruns (enters o l) ≡ overruns l
+overruns_came None l = refl
+overruns_came (Some c) l = overruns_entered l c
 
-overran_came : (r : Receiver) (o : Came) → (arrived_of r o).overrun ≡ r.overrun
+overran_came : (r : Receiver) (o : Option Character) → (arrived_of r o).overrun ≡ r.overrun
 unfolding arrived_of entered_of
-overran_came r NoCharacter = refl
-overran_came r (Arrival c) = refl
+overran_came r None = refl
+overran_came r (Some c) = refl
 
 in_step_answered : (l : Ledger) (r : Receiver) (rs : List Character) (m : Sampled) → r.queue.count ≤ 4 → Roomy r.queue.count m
     → InStep l r rs → InStep (pulse_written l m) (answered_of r m) rs
@@ -190,9 +189,9 @@ all_started : (t : Bool) (l : List Entry) → map as_arrived (starts t l) ≡ ma
 all_started true l = arrived_meets 3 Overrun l
 all_started false l = refl
 
-all_came : (o : Came) (l : List Entry) → map as_arrived (enters o l) ≡ map as_arrived l ++ list_of o
-all_came NoCharacter l = sym (append-nil (map as_arrived l))
-all_came (Arrival c) l = map-append as_arrived l (entry c false Held ∷ [])
+all_came : (o : Option Character) (l : List Entry) → map as_arrived (enters o l) ≡ map as_arrived l ++ option_to_list o
+all_came None l = sym (append-nil (map as_arrived l))
+all_came (Some c) l = map-append as_arrived l (entry c false Held ∷ [])
 
 all_fed : (l : Ledger) (e : Feed) (xs : List Line) → map as_arrived l.entries ++ arrivals l.sampler (lines_of e ++ xs)
     ≡ map as_arrived (written l e).entries ++ arrivals (written l e).sampler xs

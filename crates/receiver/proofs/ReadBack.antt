@@ -19,11 +19,10 @@ use Rattle.character.specs.Character.{clean}
 use Rattle.sampler_state.specs.declared.state.Sampler.{Sampler}
 use Rattle.feed.specs.declared.feed.Setting.{Setting}
 use Rattle.sampler_state.specs.State.{hunting}
-use Rattle.sampler_hunting.specs.declared.hunting.Came.{Came}
-use Rattle.sampler_hunting.specs.declared.hunting.Came.TheVariants.{NoCharacter, Arrival}
+use Rattle.std.specs.Prelude.{Option, None, Some, option_to_list}
 use Rattle.sampler_hunting.specs.declared.hunting.Sampled.{Sampled}
 use Rattle.sampler_hunting.specs.Hunting.{hunted}
-use Rattle.sampler.specs.Lines.{at16, Line, hears, list_of, after_lines, arrivals}
+use Rattle.sampler.specs.Lines.{at16, Line, hears, after_lines, arrivals}
 use Rattle.sampler.specs.Sampler.{sample_of}
 use Rattle.sampler.proofs.Laws.Heard.{Said, changing, begun, coming, heard, reached, Ran, hears-frame}
 use Rattle.sampler.proofs.Laws.Heard.Said.{changes, began, came}
@@ -69,11 +68,11 @@ arrivals_heard f s [] = refl
 arrivals_heard f s (b ∷ ls) =
     rw (arrivals_heard f (sample_of s b f).next ls) (said (sample_of s b f).change (sample_of s b f).started (sample_of s b f).came _)
   where
-    coming-first : (o : Came) (l : List Said) → list_of o ++ arriving l ≡ arriving (coming o ++ l)
-    coming-first NoCharacter l = refl
-    coming-first (Arrival c) l = refl
+    coming-first : (o : Option Character) (l : List Said) → option_to_list o ++ arriving l ≡ arriving (coming o ++ l)
+    coming-first None l = refl
+    coming-first (Some c) l = refl
 
-    said : (u t : Bool) (o : Came) (l : List Said) → list_of o ++ arriving l ≡ arriving (changing u ++ (begun t ++ (coming o ++ l)))
+    said : (u t : Bool) (o : Option Character) (l : List Said) → option_to_list o ++ arriving l ≡ arriving (changing u ++ (begun t ++ (coming o ++ l)))
     said true true o l = coming-first o l
     said true false o l = coming-first o l
     said false true o l = coming-first o l
@@ -99,17 +98,17 @@ plays_sampler (changes ∷ l) r s = plays_sampler l (with_change r true) s
 plays_sampler (began ∷ l) r s = plays_sampler l (started_of r true) s
 plays_sampler (came c ∷ l) r s = plays_sampler l (entered_of r c) s
 
-plays_answer : (r : Receiver) (s : Sampler) (u t : Bool) (o : Came) (l : List Said)
+plays_answer : (r : Receiver) (s : Sampler) (u t : Bool) (o : Option Character) (l : List Said)
     → plays l (arrived_of (started_of (heard_of r s u) t) o) ≡ with_sampler (plays (changing u ++ (begun t ++ (coming o ++ l))) r) s
 unfolding started_of arrived_of entered_of pick
-plays_answer r s true true NoCharacter l = rw or-true (plays_sampler l (started_of (with_change r true) true) s)
-plays_answer r s true true (Arrival c) l = rw or-true (plays_sampler l (entered_of (started_of (with_change r true) true) c) s)
-plays_answer r s true false NoCharacter l = rw or-true (plays_sampler l (with_change r true) s)
-plays_answer r s true false (Arrival c) l = rw or-true (plays_sampler l (entered_of (with_change r true) c) s)
-plays_answer r s false true NoCharacter l = rw or-false (plays_sampler l (started_of r true) s)
-plays_answer r s false true (Arrival c) l = rw or-false (plays_sampler l (entered_of (started_of r true) c) s)
-plays_answer r s false false NoCharacter l = rw or-false (plays_sampler l r s)
-plays_answer r s false false (Arrival c) l = rw or-false (plays_sampler l (entered_of r c) s)
+plays_answer r s true true None l = rw or-true (plays_sampler l (started_of (with_change r true) true) s)
+plays_answer r s true true (Some c) l = rw or-true (plays_sampler l (entered_of (started_of (with_change r true) true) c) s)
+plays_answer r s true false None l = rw or-true (plays_sampler l (with_change r true) s)
+plays_answer r s true false (Some c) l = rw or-true (plays_sampler l (entered_of (with_change r true) c) s)
+plays_answer r s false true None l = rw or-false (plays_sampler l (started_of r true) s)
+plays_answer r s false true (Some c) l = rw or-false (plays_sampler l (entered_of (started_of r true) c) s)
+plays_answer r s false false None l = rw or-false (plays_sampler l r s)
+plays_answer r s false false (Some c) l = rw or-false (plays_sampler l (entered_of r c) s)
 
 pulsed_sampler : (r : Receiver) (b : Bool) (f : Setting) → (pulsed_of r b f).sampler ≡ (sample_of r.sampler b f).next
 unfolding pulsed_of
@@ -182,7 +181,7 @@ after_append s (x ∷ a) b = after_append (hears s x).next a b
 arrivals_append : (s : Sampler) (a b : List Line) → arrivals s (a ++ b) ≡ arrivals s a ++ arrivals (after_lines s a) b
 unfolding arrivals after_lines
 arrivals_append s [] b = refl
-arrivals_append s (x ∷ a) b = rw (arrivals_append (hears s x).next a b) (sym (append_assoc (list_of (hears s x).came) _ _))
+arrivals_append s (x ∷ a) b = rw (arrivals_append (hears s x).next a b) (sym (append_assoc (option_to_list (hears s x).came) _ _))
 
 pub read_back_all : (f : Format) (n : ℕ) (xs : List ℕ) (s : Sampler) → f.width.0 ≤ 8 → 9 ≤ n → Idle s → ReadBackAll f n xs s
 unfolding lines_over arrivals after_lines

@@ -3,15 +3,13 @@
 -- feed and any way `show` to tell its status, so that it can be proved of one and proved false of others. The front
 -- feeds a pulse to an enabled receiver only, and `Enables` to one that was off or at a mode change; the statement asks
 -- no such thing of the list. Assumes nothing.
-use Rattle.std.specs.Prelude.{ℕ, zero, suc, ◌≤◌, ◌≡◌, Bool, true, false, ◌||◌, List, [], ◌∷◌, ◌++◌, map, ltb, take}
+use Rattle.std.specs.Prelude.{ℕ, zero, suc, ◌≤◌, ◌≡◌, Bool, true, false, ◌||◌, List, [], ◌∷◌, ◌++◌, map, ltb, take, Option, None, Some}
 use Rattle.format.specs.Pick.{pick}
 use Rattle.character.specs.declared.character.Character.{Character}
 use Rattle.character.specs.declared.character.Marks.{Marks}
 use Rattle.character.specs.Character.{no_marks, unmarked_of}
 use Rattle.sampler_state.specs.declared.state.Sampler.{Sampler}
 use Rattle.sampler_state.specs.State.{hunting}
-use Rattle.sampler_hunting.specs.declared.hunting.Came.{Came}
-use Rattle.sampler_hunting.specs.declared.hunting.Came.TheVariants.{NoCharacter, Arrival}
 use Rattle.sampler_hunting.specs.declared.hunting.Sampled.{Sampled}
 use Rattle.sampler.specs.Lines.{Line, hears, arrivals}
 use Rattle.sampler.specs.Lines.Line.{pulse, enable, disable}
@@ -95,9 +93,9 @@ starts true l = meets 3 Overrun l
 starts false l = l
 
 -- an arrival is entered last, as held
-abbrev pub enters : Came → List Entry → List Entry
-enters NoCharacter l = l
-enters (Arrival c) l = l ++ (entry c false Held ∷ [])
+abbrev pub enters : Option Character → List Entry → List Entry
+enters None l = l
+enters (Some c) l = l ++ (entry c false Held ∷ [])
 
 abbrev pub overruns : List Entry → ℕ
 overruns [] = 0

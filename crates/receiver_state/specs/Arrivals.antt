@@ -1,5 +1,5 @@
 -- One receiver: sampler and queue side by side, and what a pulse does to it. Assumes nothing.
-use Rattle.std.specs.Prelude.{ℕ, Bool, false, ◌||◌}
+use Rattle.std.specs.Prelude.{ℕ, Bool, false, ◌||◌, Option, None, Some}
 use Rattle.format.specs.Pick.{pick}
 use Rattle.character.specs.declared.character.Character.{Character}
 use Rattle.character.specs.declared.character.Marks.{Marks}
@@ -7,8 +7,6 @@ use Rattle.character.specs.Character.{no_marks, or_marks}
 use Rattle.sampler_state.specs.declared.state.Sampler.{Sampler}
 use Rattle.feed.specs.declared.feed.Setting.{Setting}
 use Rattle.sampler_state.specs.State.{hunting}
-use Rattle.sampler_hunting.specs.declared.hunting.Came.{Came}
-use Rattle.sampler_hunting.specs.declared.hunting.Came.TheVariants.{NoCharacter, Arrival}
 use Rattle.sampler_hunting.specs.declared.hunting.Sampled.{Sampled}
 use Rattle.sampler.specs.Sampler.{sample_of}
 use Rattle.queue.specs.declared.queue.Queue.{Queue}
@@ -81,9 +79,9 @@ entered_of r c =
     with_sums (with_queue r (put_of r.queue c))
     (pick (is_empty_of r.queue) (or_marks r.sums c.marks) r.sums)
 
-unfoldable pub arrived_of : Receiver → Came → Receiver
-arrived_of r NoCharacter = r
-arrived_of r (Arrival c) = entered_of r c
+unfoldable pub arrived_of : Receiver → Option Character → Receiver
+arrived_of r None = r
+arrived_of r (Some c) = entered_of r c
 
 -- What the sampler answers to a pulse: the confirmed start, then the arrival.
 abbrev pub answered_of : Receiver → Sampled → Receiver

@@ -7,7 +7,6 @@ use character::{Character, Marks, no_marks, or_marks};
 use feed::Setting;
 use queue::{Queue, empty_queue, is_empty, oldest, one_waits, put, remove_waiting};
 use sampler::sample;
-use sampler_hunting::Came;
 use sampler_state::{Sampler, drop_assembly};
 
 #[repr(C)]
@@ -88,12 +87,12 @@ fn enter(receiver: Receiver, character: Character) -> Receiver
     r
 }
 
-fn arrive(receiver: Receiver, came: Came) -> Receiver
+fn arrive(receiver: Receiver, came: Option<Character>) -> Receiver
     ensures { result ≡ arrived_of receiver came }
 {
     match came {
-        Came::NoCharacter => receiver,
-        Came::Arrival(character) => enter(receiver, character),
+        None => receiver,
+        Some(character) => enter(receiver, character),
     }
 }
 

@@ -1,14 +1,12 @@
 -- Demand 3: "the characters that the line, the clock pulses, the format and the enable alone put together". What
 -- reaches a sampler, and what the sampler, run alone over it, puts together. There is no queue here, and nothing that a
 -- program reads. Assumes nothing.
-use Rattle.std.specs.Prelude.{Bool, true, false, List, [], ◌∷◌, ◌++◌}
+use Rattle.std.specs.Prelude.{Bool, true, false, List, [], ◌∷◌, ◌++◌, option_to_list}
 use Rattle.format.specs.declared.format.Format.{Format}
 use Rattle.character.specs.declared.character.Character.{Character}
 use Rattle.sampler_state.specs.declared.state.Sampler.{Sampler}
 use Rattle.feed.specs.declared.feed.Setting.{Setting}
 use Rattle.sampler_state.specs.State.{hunting}
-use Rattle.sampler_hunting.specs.declared.hunting.Came.{Came}
-use Rattle.sampler_hunting.specs.declared.hunting.Came.TheVariants.{NoCharacter, Arrival}
 use Rattle.sampler_hunting.specs.declared.hunting.Sampled.{Sampled}
 use Rattle.sampler_hunting.specs.Hunting.{still}
 use Rattle.sampler.specs.Sampler.{sample_of}
@@ -35,11 +33,7 @@ unfoldable pub after_lines : Sampler → List Line → Sampler
 after_lines s [] = s
 after_lines s (x ∷ xs) = after_lines (hears s x).next xs
 
-abbrev pub list_of : Came → List Character
-list_of NoCharacter = []
-list_of (Arrival c) = c ∷ []
-
 -- the characters that it puts together, in order
 unfoldable pub arrivals : Sampler → List Line → List Character
 arrivals s [] = []
-arrivals s (x ∷ xs) = list_of (hears s x).came ++ arrivals (hears s x).next xs
+arrivals s (x ∷ xs) = option_to_list (hears s x).came ++ arrivals (hears s x).next xs

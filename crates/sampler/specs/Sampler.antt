@@ -1,13 +1,12 @@
 -- The sampler's answer to a pulse: what the line, the clock pulses and the format put together. It never looks at the
 -- queue. `true` is a high level. Assumes nothing.
-use Rattle.std.specs.Prelude.{ℕ, ◌+◌, ◌-◌, Bool, true, false, eqb, ltb}
+use Rattle.std.specs.Prelude.{ℕ, ◌+◌, ◌-◌, Bool, true, false, eqb, ltb, Some}
 use Rattle.format.specs.Pick.{pick}
 use Rattle.character.specs.Character.{break_character}
 use Rattle.sampler_state.specs.declared.state.Sampler.{Sampler}
 use Rattle.feed.specs.declared.feed.Setting.{Setting}
 use Rattle.sampler_state.specs.State.{assembling, in_break, gap_of, after_stop}
 use Rattle.sampler_state.specs.Assembly.{samples_of, with_sample, character_of}
-use Rattle.sampler_hunting.specs.declared.hunting.Came.TheVariants.{Arrival}
 use Rattle.sampler_hunting.specs.declared.hunting.Sampled.{Sampled}
 use Rattle.sampler_hunting.specs.Hunting.{still, hunted, looked_again, followed, waited}
 
@@ -17,13 +16,13 @@ arrived f v stop =
     record {
       next = after_stop f.sixteen stop;
       started = false;
-      came = Arrival (character_of f.format v stop);
+      came = Some (character_of f.format v stop);
       change = false;
     }
 
 -- a break: "hunting waits for 8 high pulses in a row"
 abbrev pub broke : Sampled
-broke = record { next = in_break 7; started = false; came = Arrival break_character; change = true }
+broke = record { next = in_break 7; started = false; came = Some break_character; change = true }
 
 -- "All bits, parity and stop low: a zero with the break mark alone, break change set"
 unfoldable pub finished : Setting → ℕ → Bool → Sampled

@@ -6,7 +6,7 @@ ghost use Rattle.sampler.specs.Sampler.{arrived, finished, sampled, assembled, s
 use character::break_character;
 use feed::Setting;
 use format::{Bits, Pulses};
-use sampler_hunting::{Came, Sampled, follow_low_stop, hunt, look_again, quiet, wait_for_end};
+use sampler_hunting::{Sampled, follow_low_stop, hunt, look_again, quiet, wait_for_end};
 use sampler_state::{
     AFTER_LOW_STOP, ASSEMBLING, IN_BREAK, STARTING, Sampler, after_stop, assembling_at,
     character_of, empty_at, gap, samples_before_stop,
@@ -19,7 +19,7 @@ fn arrive(setting: Setting, value: u16, stop: bool) -> Sampled
     Sampled {
         next: after_stop(setting.sixteen, stop),
         started: false,
-        came: Came::Arrival(character_of(setting.format, value, stop)),
+        came: Some(character_of(setting.format, value, stop)),
         change: false,
     }
 }
@@ -36,7 +36,7 @@ fn finish(setting: Setting, value: u16, stop: bool) -> Sampled
         return Sampled {
             next: empty_at(IN_BREAK, false, Pulses(7)),
             started: false,
-            came: Came::Arrival(break_character()),
+            came: Some(break_character()),
             change: true,
         };
     }

@@ -1,16 +1,15 @@
 -- The answer to a pulse of a sampler outside a character: it hunts for a start, looks at it again, follows a low stop,
 -- waits for a break's end. `true` is a high level. Assumes nothing.
-use Rattle.std.specs.Prelude.{◌-◌, Bool, true, false, eqb}
+use Rattle.std.specs.Prelude.{◌-◌, Bool, true, false, eqb, None}
 use Rattle.format.specs.Pick.{pick}
 use Rattle.sampler_state.specs.declared.state.Sampler.{Sampler}
 use Rattle.feed.specs.declared.feed.Setting.{Setting}
 use Rattle.sampler_state.specs.State.{hunting, starting, assembling, after_low_stop, in_break, gap_of}
-use Rattle.sampler_hunting.specs.declared.hunting.Came.TheVariants.{NoCharacter}
 use Rattle.sampler_hunting.specs.declared.hunting.Sampled.{Sampled}
 
 -- no start, no character, no break change
 abbrev pub still : Sampler → Sampled
-still s = record { next = s; started = false; came = NoCharacter; change = false }
+still s = record { next = s; started = false; came = None; change = false }
 
 -- a confirmed start: no sample is taken yet
 abbrev pub confirmed : Setting → Sampled
@@ -18,7 +17,7 @@ confirmed f =
     record {
       next = assembling f (gap_of f.sixteen) (record { 0 = 0 }) 0;
       started = true;
-      came = NoCharacter;
+      came = None;
       change = false;
     }
 
@@ -44,7 +43,7 @@ followed s level f =
 
 -- "then break change is set again"
 abbrev pub ended : Sampled
-ended = record { next = hunting true; started = false; came = NoCharacter; change = true }
+ended = record { next = hunting true; started = false; came = None; change = true }
 
 -- "hunting waits for 8 high pulses in a row"; at 1X "one high ends a break"
 unfoldable pub waited : Sampler → Bool → Setting → Sampled

@@ -11,20 +11,14 @@ use sampler_state::{
     AFTER_LOW_STOP, IN_BREAK, Sampler, assembling_at, empty_at, gap, hunting_after, starting_at,
 };
 
-// A character that arrived, if any.
-#[derive(Clone, Copy)]
-pub enum Came {
-    NoCharacter,
-    Arrival(Character),
-}
-
 // The answer to a pulse.
 #[derive(Clone, Copy)]
 pub struct Sampled {
     pub next: Sampler,
     // a start was confirmed
     pub started: bool,
-    pub came: Came,
+    // a character that arrived, if any
+    pub came: Option<Character>,
     // break change is set
     pub change: bool,
 }
@@ -36,7 +30,7 @@ pub fn quiet(next: Sampler) -> Sampled
     Sampled {
         next: next,
         started: false,
-        came: Came::NoCharacter,
+        came: None,
         change: false,
     }
 }
@@ -48,7 +42,7 @@ fn confirm_start(setting: Setting) -> Sampled
     Sampled {
         next: assembling_at(setting, gap(setting.sixteen), Bits(0), 0),
         started: true,
-        came: Came::NoCharacter,
+        came: None,
         change: false,
     }
 }
@@ -110,7 +104,7 @@ fn end_break() -> Sampled
     Sampled {
         next: hunting_after(true),
         started: false,
-        came: Came::NoCharacter,
+        came: None,
         change: true,
     }
 }

@@ -4,4 +4,4 @@
 
 mod hunting;
 
-pub use hunting::{Came, Sampled, follow_low_stop, hunt, look_again, quiet, wait_for_end};
+pub use hunting::{Sampled, follow_low_stop, hunt, look_again, quiet, wait_for_end};

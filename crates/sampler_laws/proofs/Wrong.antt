@@ -8,6 +8,7 @@ use native.Mathlib.Omega.{arith}
 use borrow.Author.Tests.{eqb-false}
 use lib.Dec.{eqb}
 use lib.ListN.{length, get_or, replicate}
+use Rattle.std.specs.Prelude.{option_to_list}
 use Rattle.format.specs.Format.{format_of}
 use Rattle.format.specs.Pick.{pick}
 use Rattle.character.specs.declared.character.Character.{Character}
@@ -16,7 +17,7 @@ use Rattle.sampler_state.specs.declared.state.Sampler.{Sampler}
 use Rattle.sampler_state.specs.State.{hunting, assembling}
 use Rattle.feed.specs.declared.feed.Setting.{Setting}
 use Rattle.sampler_hunting.specs.declared.hunting.Sampled.{Sampled}
-use Rattle.sampler.specs.Lines.{at16, hears, list_of, arrivals}
+use Rattle.sampler.specs.Lines.{at16, hears, arrivals}
 use Rattle.sampler.specs.Lines.Line.{pulse, enable, disable}
 use Rattle.sampler_laws.specs.Sampling.{Found, Assembly, Sixteen, Samples, Enables, Flags, BreakChange}
 use Rattle.sampler.proofs.Computing.{computing}
@@ -33,7 +34,7 @@ earlier x =
 
 abbrev early_from : Sampler → Assembly
 early_from s [] = []
-early_from s (x ∷ xs) = list_of (hears s x).came ++ early_from (earlier (hears s x)) xs
+early_from s (x ∷ xs) = option_to_list (hears s x).came ++ early_from (earlier (hears s x)) xs
 
 abbrev early : Assembly
 early = early_from (hunting true)
@@ -43,7 +44,7 @@ abbrev unseen_from : Sampler → Assembly
 unseen_from s [] = []
 unseen_from s (pulse level f ∷ xs) =
     let x : Sampled = hears s (pulse (level && not (eqb s.phase 1)) f) in
-    list_of x.came ++ unseen_from x.next xs
+    option_to_list x.came ++ unseen_from x.next xs
 unseen_from s (enable ∷ xs) = unseen_from (hears s enable).next xs
 unseen_from s (disable ∷ xs) = unseen_from (hears s disable).next xs
 

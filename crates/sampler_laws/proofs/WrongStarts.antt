@@ -8,6 +8,7 @@ use native.Mathlib.Omega.{arith}
 use borrow.Author.Tests.{eqb-false}
 use lib.Dec.{eqb, ltb}
 use lib.ListN.{length, get_or, replicate}
+use Rattle.std.specs.Prelude.{option_to_list}
 use Rattle.format.specs.Format.{format_of}
 use Rattle.format.specs.Pick.{pick}
 use Rattle.sampler_state.specs.declared.state.Sampler.{Sampler}
@@ -15,7 +16,7 @@ use Rattle.sampler_state.specs.State.{hunting, in_break}
 use Rattle.feed.specs.declared.feed.Setting.{Setting}
 use Rattle.sampler_hunting.specs.declared.hunting.Sampled.{Sampled}
 use Rattle.sampler_hunting.specs.Hunting.{still}
-use Rattle.sampler.specs.Lines.{Line, hears, list_of}
+use Rattle.sampler.specs.Lines.{Line, hears}
 use Rattle.sampler.specs.Lines.Line.{pulse, enable, disable}
 use Rattle.sampler_laws.specs.Sampling.{Found, Assembly, Flags, Sixteen}
 use Rattle.sampler_laws.specs.Breaks.{One, Breaks}
@@ -98,7 +99,7 @@ heard_by w s disable = hears s disable
 
 abbrev arrive_by : Way → Sampler → Assembly
 arrive_by w s [] = []
-arrive_by w s (x ∷ xs) = list_of (heard_by w s x).came ++ arrive_by w (heard_by w s x).next xs
+arrive_by w s (x ∷ xs) = option_to_list (heard_by w s x).came ++ arrive_by w (heard_by w s x).next xs
 
 abbrev tell_by : (Sampled → Bool) → Way → Sampler → Flags
 tell_by q w s [] = []

@@ -1,12 +1,11 @@
 -- Pulses that find one level, as many at a time as only pass. Assumes nothing.
-use Rattle.std.specs.Prelude.{ℕ, ◌-◌, ◌≤◌, ◌<◌, ◌≡◌, Bool, ltb}
+use Rattle.std.specs.Prelude.{ℕ, ◌-◌, ◌≤◌, ◌<◌, ◌≡◌, Bool, ltb, None, option_to_list}
 use Rattle.format.specs.Pick.{pick}
 use Rattle.format.specs.declared.counts.Pulses.{Pulses}
 use Rattle.feed.specs.declared.feed.Setting.{Setting}
 use Rattle.sampler_state.specs.declared.state.Sampler.{Sampler}
-use Rattle.sampler_hunting.specs.declared.hunting.Came.TheVariants.{NoCharacter}
 use Rattle.sampler_hunting.specs.declared.hunting.Sampled.{Sampled}
-use Rattle.sampler.specs.Lines.{after_lines, list_of, arrivals}
+use Rattle.sampler.specs.Lines.{after_lines, arrivals}
 use Rattle.vcd_capture.specs.declared.hops.Hopped.{Hopped}
 use Rattle.vcd_capture.specs.Ear.{pulses_at}
 
@@ -14,7 +13,7 @@ abbrev pub one_pulse : Sampled → Hopped
 one_pulse x = record { sampler = x.next; came = x.came; pulses = 1 }
 
 abbrev pub staying : Sampler → ℕ → Hopped
-staying s n = record { sampler = s; came = NoCharacter; pulses = n }
+staying s n = record { sampler = s; came = None; pulses = n }
 
 -- the pulses before the one that decides, at most so many, and how many are left then
 unfoldable pub fewer : Pulses → ℕ → ℕ
@@ -28,4 +27,4 @@ pub record Hops (s : Sampler) (level : Bool) (f : Setting) (most : ℕ) (r : Hop
   pub some : 0 < r.pulses
   pub few : r.pulses ≤ most
   pub sampler : r.sampler ≡ after_lines s (pulses_at r.pulses level f)
-  pub came : list_of r.came ≡ arrivals s (pulses_at r.pulses level f)
+  pub came : option_to_list r.came ≡ arrivals s (pulses_at r.pulses level f)

@@ -1,16 +1,15 @@
 // What a wire's receiver hears: "Turn each line, up to the last time, into characters by document 01's receiver, just enabled,
 // phase 0".
-ghost use Rattle.std.specs.Prelude.{◌+◌, ◌-◌, ◌*◌, ◌^◌, ◌≤◌, ◌<◌, ◌≡◌, length, drop};
+ghost use Rattle.std.specs.Prelude.{◌+◌, ◌-◌, ◌*◌, ◌^◌, ◌≤◌, ◌<◌, ◌≡◌, length, drop, option_to_list};
 ghost use Rattle.text.specs.Puts.{Puts};
 ghost use Rattle.vcd_capture.specs.Ear.{ticks_before, pulses_before, Hears, ear_until, heard_until, ear_value, ear_said, heard_said, heard_from, just_enabled, Moves};
 ghost use Rattle.vcd_lines.specs.Body.{started};
 ghost use Rattle.vcd_capture.specs.Logs.{log_bytes};
-ghost use Rattle.sampler.specs.Lines.{list_of};
 
 use crate::hops::hop;
 use crate::logs::put_character;
+use character::Character;
 use feed::Setting;
-use sampler_hunting::Came;
 use sampler_state::{Sampler, drop_assembly};
 use vcd_lines::{Said, say, start, take};
 
@@ -50,13 +49,13 @@ pub struct Heard {
     pub at: usize,
 }
 
-fn take_came(came: Came, at: usize, log: &mut [u8]) -> usize
+fn take_came(came: Option<Character>, at: usize, log: &mut [u8]) -> usize
     requires { at + 2 < 2 ^ 64 }
-    ensures { Puts at (log_bytes (list_of came)) log.old log.new result }
+    ensures { Puts at (log_bytes (option_to_list came)) log.old log.new result }
 {
     match came {
-        Came::NoCharacter => at,
-        Came::Arrival(character) => put_character(character, at, log),
+        None => at,
+        Some(character) => put_character(character, at, log),
     }
 }
 

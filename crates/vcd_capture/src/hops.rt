@@ -3,10 +3,11 @@
 ghost use Rattle.std.specs.Prelude.{◌≤◌, ◌<◌, ◌≡◌};
 ghost use Rattle.vcd_capture.specs.Hops.{fewer, fewer_left, one_pulse, staying, Hops};
 
+use character::Character;
 use feed::Setting;
 use format::Pulses;
 use sampler::take_sample;
-use sampler_hunting::{Came, Sampled, follow_low_stop, hunt, look_again, wait_for_end};
+use sampler_hunting::{Sampled, follow_low_stop, hunt, look_again, wait_for_end};
 use sampler_state::{
     AFTER_LOW_STOP, ASSEMBLING, IN_BREAK, STARTING, Sampler, assembling_at, empty_at,
     hunting_after, starting_at,
@@ -16,7 +17,7 @@ use sampler_state::{
 #[derive(Clone, Copy)]
 pub struct Hopped {
     pub sampler: Sampler,
-    pub came: Came,
+    pub came: Option<Character>,
     pub pulses: u64,
 }
 
@@ -37,7 +38,7 @@ fn stay(sampler: Sampler, pulses: u64) -> Hopped
 {
     Hopped {
         sampler: sampler,
-        came: Came::NoCharacter,
+        came: None,
         pulses: pulses,
     }
 }

@@ -8,8 +8,7 @@ use Rattle.format.specs.Pick.{pick}
 use Rattle.character.specs.declared.character.Character.{Character}
 use Rattle.character.specs.declared.character.Marks.{Marks}
 use Rattle.character.specs.Character.{or_marks}
-use Rattle.sampler_hunting.specs.declared.hunting.Came.{Came}
-use Rattle.sampler_hunting.specs.declared.hunting.Came.TheVariants.{NoCharacter, Arrival}
+use Rattle.std.specs.Prelude.{Option, None, Some}
 use Rattle.sampler_hunting.specs.declared.hunting.Sampled.{Sampled}
 use Rattle.sampler.specs.Sampler.{sample_of}
 use Rattle.sampler.proofs.Laws.Room.{most_four, grown, Roomy, room_sample}
@@ -62,10 +61,10 @@ unfolding list_started started_of pick
 started_held r true h = rw (held_length r.queue h, held_without_waiting r.queue h)
 started_held r false h = refl
 
-arrived_held : (r : Receiver) (o : Came) → grown o r.queue.count ≤ 4 → list_arrived (list_of r) o ≡ list_of (arrived_of r o)
+arrived_held : (r : Receiver) (o : Option Character) → grown o r.queue.count ≤ 4 → list_arrived (list_of r) o ≡ list_of (arrived_of r o)
 unfolding list_arrived arrived_of entered_of
-arrived_held r NoCharacter h = refl
-arrived_held r (Arrival c) h = rw (held_put r.queue c (omega arith), summed_held r.queue)
+arrived_held r None h = refl
+arrived_held r (Some c) h = rw (held_put r.queue c (omega arith), summed_held r.queue)
 
 answered_held : (r : Receiver) (m : Sampled) → r.queue.count ≤ 4 → Roomy r.queue.count m → list_answered (list_of r) m ≡ list_of (answered_of r m)
 unfolding list_answered

@@ -12,8 +12,8 @@ use Rattle.character.specs.declared.character.Marks.{Marks}
 use Rattle.character.specs.Character.{no_marks, or_marks}
 use Rattle.sampler_state.specs.declared.state.Sampler.{Sampler}
 use Rattle.sampler_state.specs.State.{hunting}
-use Rattle.sampler_hunting.specs.declared.hunting.Came.{Came}
-use Rattle.sampler_hunting.specs.declared.hunting.Came.TheVariants.{NoCharacter, Arrival}
+use Rattle.std.specs.Prelude.{Option, None, Some}
+use Rattle.character.specs.declared.character.Character.{Character}
 use Rattle.sampler_hunting.specs.declared.hunting.Sampled.{Sampled}
 use Rattle.sampler.specs.Lines.{hears}
 use Rattle.sampler.specs.Sampler.{sample_of}
@@ -42,21 +42,21 @@ answered_last : (r : Receiver) (m : Sampled) → (answered_of r m).last ≡ r.la
 unfolding arrived_of entered_of started_of pick
 answered_last r m = go m.started m.came
   where
-    go : (t : Bool) (o : Came) → (arrived_of (started_of (heard_of r m.next m.change) t) o).last ≡ r.last
-    go true NoCharacter = refl
-    go true (Arrival c) = refl
-    go false NoCharacter = refl
-    go false (Arrival c) = refl
+    go : (t : Bool) (o : Option Character) → (arrived_of (started_of (heard_of r m.next m.change) t) o).last ≡ r.last
+    go true None = refl
+    go true (Some c) = refl
+    go false None = refl
+    go false (Some c) = refl
 
 answered_change : (r : Receiver) (m : Sampled) → (answered_of r m).change ≡ r.change || m.change
 unfolding arrived_of entered_of started_of pick
 answered_change r m = go m.started m.came
   where
-    go : (t : Bool) (o : Came) → (arrived_of (started_of (heard_of r m.next m.change) t) o).change ≡ r.change || m.change
-    go true NoCharacter = refl
-    go true (Arrival c) = refl
-    go false NoCharacter = refl
-    go false (Arrival c) = refl
+    go : (t : Bool) (o : Option Character) → (arrived_of (started_of (heard_of r m.next m.change) t) o).change ≡ r.change || m.change
+    go true None = refl
+    go true (Some c) = refl
+    go false None = refl
+    go false (Some c) = refl
 
 or_none : (x : Marks) → or_marks x no_marks ≡ x
 or_none x = rw (or-false x.broken, or-false x.framing, or-false x.parity)
@@ -96,9 +96,9 @@ answered_sums l r m h = go m.came
     either true x = refl
     either false x = sym (or_none r.sums)
 
-    go : (o : Came) → (arrived_of n o).sums ≡ or_marks r.sums (became l (enters o (starts m.started l)))
-    go NoCharacter = rw (sums, became_started m.started l) (sym (or_none r.sums))
-    go (Arrival c) = rw (sums, empty, became_entered m.started l c, h) (either (is_empty_of r.queue) c.marks)
+    go : (o : Option Character) → (arrived_of n o).sums ≡ or_marks r.sums (became l (enters o (starts m.started l)))
+    go None = rw (sums, became_started m.started l) (sym (or_none r.sums))
+    go (Some c) = rw (sums, empty, became_entered m.started l c, h) (either (is_empty_of r.queue) c.marks)
 
 -- ---- a command ----
 

@@ -7,8 +7,8 @@ use native.Mathlib.Omega.{arith}
 use borrow.Author.Tests.{leb-true, le-leb}
 use Rattle.format.proofs.Laws.Pick.{pick_all}
 use Rattle.feed.specs.declared.feed.Setting.{Setting}
-use Rattle.sampler_hunting.specs.declared.hunting.Came.{Came}
-use Rattle.sampler_hunting.specs.declared.hunting.Came.TheVariants.{NoCharacter, Arrival}
+use Rattle.std.specs.Prelude.{Option, None, Some}
+use Rattle.character.specs.declared.character.Character.{Character}
 use Rattle.sampler_hunting.specs.declared.hunting.Sampled.{Sampled}
 use Rattle.sampler.specs.Sampler.{sample_of}
 use Rattle.sampler.specs.Sound.{sampler_in_range}
@@ -38,10 +38,10 @@ started_inside : (r : Receiver) (t : Bool) → Inside r → Inside (started_of r
 unfolding started_of
 started_inside r t h = pick_all Inside t _ _ (record { sampler = h.sampler; queue = rw (without_waiting_count r.queue) (omega arith) }) h
 
-arrived_inside : (r : Receiver) (o : Came) → Inside r → Inside (arrived_of r o)
+arrived_inside : (r : Receiver) (o : Option Character) → Inside r → Inside (arrived_of r o)
 unfolding arrived_of entered_of
-arrived_inside r NoCharacter h = h
-arrived_inside r (Arrival c) h = record { sampler = h.sampler; queue = put_four r.queue c }
+arrived_inside r None h = h
+arrived_inside r (Some c) h = record { sampler = h.sampler; queue = put_four r.queue c }
 
 pulsed_inside : (r : Receiver) (level : Bool) (f : Setting) → Inside r → setting_in_range f ≡ true → Inside (pulsed_of r level f)
 unfolding pulsed_of

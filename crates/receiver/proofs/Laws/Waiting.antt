@@ -8,8 +8,8 @@ use lib.Dec.{eqb, leb}
 use borrow.Author.Tests.{le-leb, leb-true, leb-false, lt-leb, not-true}
 use Rattle.format.specs.Pick.{pick}
 use Rattle.format.proofs.Laws.Pick.{pick_all}
-use Rattle.sampler_hunting.specs.declared.hunting.Came.{Came}
-use Rattle.sampler_hunting.specs.declared.hunting.Came.TheVariants.{NoCharacter, Arrival}
+use Rattle.std.specs.Prelude.{Option, None, Some}
+use Rattle.character.specs.declared.character.Character.{Character}
 use Rattle.sampler_hunting.specs.declared.hunting.Sampled.{Sampled}
 use Rattle.sampler.specs.Sampler.{sample_of}
 use Rattle.sampler.proofs.Laws.Room.{most, most_four, cut, grown, Roomy, room_sample}
@@ -38,21 +38,21 @@ pub answered_sampler : (r : Receiver) (m : Sampled) → (answered_of r m).sample
 unfolding arrived_of entered_of started_of pick
 answered_sampler r m = go m.started m.came
   where
-    go : (t : Bool) (o : Came) → (arrived_of (started_of (heard_of r m.next m.change) t) o).sampler ≡ m.next
-    go true NoCharacter = refl
-    go true (Arrival c) = refl
-    go false NoCharacter = refl
-    go false (Arrival c) = refl
+    go : (t : Bool) (o : Option Character) → (arrived_of (started_of (heard_of r m.next m.change) t) o).sampler ≡ m.next
+    go true None = refl
+    go true (Some c) = refl
+    go false None = refl
+    go false (Some c) = refl
 
 pub started_count : (r : Receiver) (t : Bool) → (started_of r t).queue.count ≡ cut t r.queue.count
 unfolding started_of pick
 started_count r true = without_waiting_count r.queue
 started_count r false = refl
 
-arrived_count : (r : Receiver) (o : Came) → grown o r.queue.count ≤ 4 → (arrived_of r o).queue.count ≡ grown o r.queue.count
+arrived_count : (r : Receiver) (o : Option Character) → grown o r.queue.count ≤ 4 → (arrived_of r o).queue.count ≡ grown o r.queue.count
 unfolding arrived_of entered_of
-arrived_count r NoCharacter h = refl
-arrived_count r (Arrival c) h = put_count r.queue c (omega arith)
+arrived_count r None h = refl
+arrived_count r (Some c) h = put_count r.queue c (omega arith)
 
 answered_room : (r : Receiver) (m : Sampled) → Roomy r.queue.count m → Room (answered_of r m)
 answered_room r m h =

@@ -22,8 +22,7 @@ use Rattle.feed.specs.declared.feed.Setting.{Setting}
 use Rattle.sampler_state.specs.Assembly.{samples_of, with_sample, character_of}
 use Rattle.sampler_state.specs.State.{hunting, assembling, gap_of, after_stop}
 use Rattle.sampler_state.proofs.Laws.Assembly.{samples_are, with_sample_small, with_sample_adds, sampled_clean}
-use Rattle.sampler_hunting.specs.declared.hunting.Came.{Came}
-use Rattle.sampler_hunting.specs.declared.hunting.Came.TheVariants.{NoCharacter, Arrival}
+use Rattle.std.specs.Prelude.{Option, None, Some}
 use Rattle.sampler_hunting.specs.Hunting.{low_at, hunted, looked_again}
 use Rattle.sampler.specs.Sampler.{finished, sampled, assembled, sample_of}
 use Rattle.sampler.specs.Lines.{at16}
@@ -41,9 +40,9 @@ abbrev pub begun : Bool → List Said
 begun true = began ∷ []
 begun false = []
 
-abbrev pub coming : Came → List Said
-coming NoCharacter = []
-coming (Arrival c) = came c ∷ []
+abbrev pub coming : Option Character → List Said
+coming None = []
+coming (Some c) = came c ∷ []
 
 -- over levels, one a pulse, in one setting
 unfoldable pub heard : Setting → Sampler → List Bool → List Said

@@ -10,8 +10,8 @@ use Rattle.sampler_state.specs.declared.state.Sampler.{Sampler}
 use Rattle.feed.specs.declared.feed.Setting.{Setting}
 use Rattle.sampler_state.specs.Assembly.{samples_of}
 use Rattle.sampler_state.specs.State.{after_stop}
-use Rattle.sampler_hunting.specs.declared.hunting.Came.{Came}
-use Rattle.sampler_hunting.specs.declared.hunting.Came.TheVariants.{NoCharacter, Arrival}
+use Rattle.std.specs.Prelude.{Option, None, Some}
+use Rattle.character.specs.declared.character.Character.{Character}
 use Rattle.sampler_hunting.specs.declared.hunting.Sampled.{Sampled}
 use Rattle.sampler_hunting.specs.Hunting.{confirmed, low_at, hunted, looked_again, followed, waited}
 use Rattle.sampler.specs.Sampler.{arrived, finished, sampled, assembled, sample_of}
@@ -29,9 +29,9 @@ cut true n = min 3 n
 cut false n = n
 
 -- and after an arrival, if there is one
-abbrev pub grown : Came → ℕ → ℕ
-grown NoCharacter n = n
-grown (Arrival c) n = suc n
+abbrev pub grown : Option Character → ℕ → ℕ
+grown None n = n
+grown (Some c) n = suc n
 
 -- where `n` were held, there is room for what the sampler answers
 abbrev pub Roomy : ℕ → Sampled → Type 0

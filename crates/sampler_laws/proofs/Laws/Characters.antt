@@ -9,6 +9,7 @@ use native.Mathlib.Nat.{zero-mul, add-zero, zero-add, suc-add, mul-suc}
 use lib.Dec.{eqb}
 use lib.ListN.{length, drop, length-drop, drop_of_length-le}
 use borrow.Author.Tests.{lt-ltb, le-ltb, ne_eqb}
+use Rattle.std.specs.Prelude.{option_to_list}
 use Rattle.format.specs.Pick.{pick}
 use Rattle.format.specs.Digits.{value_of}
 use Rattle.format.proofs.Laws.Pick.{pick_yes, pick_no}
@@ -19,7 +20,7 @@ use Rattle.sampler_state.specs.State.{hunting, starting, assembling, in_break, g
 use Rattle.sampler_state.proofs.Laws.Assembly.{with_sample_small}
 use Rattle.sampler_hunting.specs.Hunting.{still, confirmed, low_at, hunted, looked_again}
 use Rattle.sampler.specs.Sampler.{finished, sampled, assembled, sample_of}
-use Rattle.sampler.specs.Lines.{Line, hears, list_of, arrivals}
+use Rattle.sampler.specs.Lines.{Line, hears, arrivals}
 use Rattle.sampler.proofs.Laws.Heard.{put_in}
 use Rattle.sampler.specs.Lines.Line.{pulse}
 use Rattle.sampler_laws.specs.Sampling.{Found, lines, level_at, samples, before_stop, character_at, Sixteen, sample_at, all_low}
@@ -49,7 +50,7 @@ confirming f (suc n) (l ∷ ls) more h =
 -- and in a character
 reaching : (f : Setting) (n k v : ℕ) (ls : Found) (more : List Line) → n < length ls
     → arrivals (assembling f (record { 0 = n }) (record { 0 = k }) v) (lines ls ++ more)
-    ≡ list_of (sampled (assembling f (record { 0 = 0 }) (record { 0 = k }) v) (level_at ls n)).came
+    ≡ option_to_list (sampled (assembling f (record { 0 = 0 }) (record { 0 = k }) v) (level_at ls n)).came
     ++ arrivals (sampled (assembling f (record { 0 = 0 }) (record { 0 = k }) v) (level_at ls n)).next (lines (drop (suc n) ls) ++ more)
 unfolding arrivals hears sample_of assembled pick
 reaching f n k v [] more h = absurd (omega arith)
@@ -64,7 +65,7 @@ reaching f (suc n) k v (l ∷ ls) more h =
 gathering : (f : Setting) (g m k v : ℕ) (ls : Found) (more : List Line) (s : ℕ → Bool) → gap_of f.sixteen ≡ record { 0 = g } → v < 2 ^ k
     → k + m ≡ (samples_of f.format).0 → length ls ≡ suc g * suc m → ((i : ℕ) → level_at ls (g + suc g * i) ≡ s i)
     → arrivals (assembling f (record { 0 = g }) (record { 0 = k }) v) (lines ls ++ more)
-    ≡ list_of (finished f (v + value_of (samples s m) * 2 ^ k) (s m)).came ++ arrivals (finished f (v + value_of (samples s m) * 2 ^ k) (s m)).next more
+    ≡ option_to_list (finished f (v + value_of (samples s m) * 2 ^ k) (s m)).came ++ arrivals (finished f (v + value_of (samples s m) * 2 ^ k) (s m)).next more
 unfolding sampled value_of pick
 gathering f g zero k v ls more s e small many l level =
     let first : level_at ls g ≡ s 0 = ap (level_at ls) (omega arith) ∙ level 0 in

@@ -9,6 +9,7 @@ use native.Mathlib.Nat.{pow-succ', mod-eq_of_lt, div-eq_of_lt, add-mul-mod_self_
 use lib.Dec.{eqb}
 use lib.ListN.{length}
 use borrow.Author.Tests.{ne_eqb}
+use Rattle.std.specs.Prelude.{option_to_list}
 use Rattle.format.specs.declared.format.Format.{Format}
 use Rattle.format.specs.Pick.{pick}
 use Rattle.format.specs.Digits.{bit, value_of}
@@ -20,7 +21,6 @@ use Rattle.feed.specs.declared.feed.Setting.{Setting}
 use Rattle.sampler_state.specs.State.{hunting, after_low_stop, in_break, after_stop}
 use Rattle.sampler_state.specs.Assembly.{data_width_of, samples_of, data_of, parity_wrong_of, character_of}
 use Rattle.sampler_state.proofs.Laws.Assembly.{width_whole}
-use Rattle.sampler.specs.Lines.{list_of}
 use Rattle.sampler.specs.Sampler.{arrived, broke, finished}
 use Rattle.sampler_laws.specs.Sampling.{samples, before_stop, byte_at, parity_wrong, character_at}
 
@@ -103,17 +103,17 @@ all_low_lem s n false e =
 
 -- what arrives at the stop's sample
 came_of : (g : Setting) (v : ℕ) (stop : Bool)
-    → list_of (finished g v stop).came ≡ pick (pick stop false (eqb v 0)) break_character (character_of g.format v stop) ∷ []
+    → option_to_list (finished g v stop).came ≡ pick (pick stop false (eqb v 0)) break_character (character_of g.format v stop) ∷ []
 unfolding finished pick
 came_of g v true = refl
 came_of g v false = go (eqb v 0)
   where
-    go : (t : Bool) → list_of (pick t broke (arrived g v false)).came ≡ pick t break_character (character_of g.format v false) ∷ []
+    go : (t : Bool) → option_to_list (pick t broke (arrived g v false)).came ≡ pick t break_character (character_of g.format v false) ∷ []
     go true = refl
     go false = refl
 
 pub samples_make : (g : Setting) (s : ℕ → Bool) → g.format.width.0 ≤ 8
-    → list_of (finished g (value_of (samples s (before_stop g.format))) (s (before_stop g.format))).came ≡ character_at g.format s ∷ []
+    → option_to_list (finished g (value_of (samples s (before_stop g.format))) (s (before_stop g.format))).came ≡ character_at g.format s ∷ []
 unfolding character_of
 samples_make g s h =
     let n : ℕ = before_stop g.format in

@@ -11,9 +11,8 @@ use Rattle.format.proofs.Laws.Pick.{pick_all}
 use Rattle.feed.specs.declared.feed.Setting.{Setting}
 use Rattle.character.specs.declared.character.Character.{Character}
 use Rattle.sampler_state.specs.declared.state.Sampler.{Sampler}
-use Rattle.sampler_hunting.specs.declared.hunting.Came.{Came}
-use Rattle.sampler_hunting.specs.declared.hunting.Came.TheVariants.{NoCharacter, Arrival}
-use Rattle.sampler.specs.Lines.{hears, after_lines, list_of, arrivals}
+use Rattle.std.specs.Prelude.{Option, None, Some, option_to_list}
+use Rattle.sampler.specs.Lines.{hears, after_lines, arrivals}
 use Rattle.sampler.specs.Lines as Hearing
 use Rattle.vcd_lines.specs.declared.body.Reading.{Reading}
 use Rattle.vcd_lines.specs.declared.body.Said.{Said}
@@ -42,9 +41,9 @@ unfolding log_bytes character_bytes
 log_length [] = refl
 log_length (c ∷ cs) = let h = log_length cs in omega arith
 
-pub came_within : (came : Came) → length (list_of came) ≤ 1
-came_within NoCharacter = omega arith
-came_within (Arrival c) = omega arith
+pub came_within : (came : Option Character) → length (option_to_list came) ≤ 1
+came_within None = omega arith
+came_within (Some c) = omega arith
 
 pub no_after : (s : Sampler) (level : Bool) (f : Setting) → after_lines s (pulses_at 0 level f) ≡ s
 unfolding after_lines

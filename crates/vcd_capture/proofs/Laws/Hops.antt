@@ -6,6 +6,7 @@ use mathlib.Core.List.{List, [], ◌∷◌, ◌++◌, append_assoc, append-nil}
 use native.Mathlib.Omega.{arith}
 use lib.Dec.{ltb}
 use borrow.Author.Tests.{eq-eqb, ne_eqb, ltb-true, ltb-false}
+use Rattle.std.specs.Prelude.{option_to_list}
 use Rattle.format.specs.Pick.{pick}
 use Rattle.feed.specs.declared.feed.Setting.{Setting}
 use Rattle.sampler_state.specs.declared.state.Sampler.{Sampler}
@@ -13,7 +14,7 @@ use Rattle.sampler_state.specs.State.{hunting, starting, assembling, in_break}
 use Rattle.sampler_hunting.specs.declared.hunting.Sampled.{Sampled}
 use Rattle.sampler_hunting.specs.Hunting.{still, low_at, hunted, looked_again, followed, waited}
 use Rattle.sampler.specs.Sampler.{sampled, assembled, sample_of}
-use Rattle.sampler.specs.Lines.{hears, after_lines, list_of, arrivals}
+use Rattle.sampler.specs.Lines.{hears, after_lines, arrivals}
 use Rattle.sampler.specs.Lines as Hearing
 use Rattle.vcd_capture.specs.declared.hops.Hopped.{Hopped}
 use Rattle.vcd_capture.specs.Ear.{pulses_at}
@@ -30,7 +31,7 @@ pub arrivals_append : (s : Sampler) (xs ys : List Hearing.Line) → arrivals s (
 unfolding arrivals after_lines
 arrivals_append s [] ys = refl
 arrivals_append s (x ∷ xs) ys =
-    rw (arrivals_append (hears s x).next xs ys) (sym (append_assoc (list_of (hears s x).came) _ _))
+    rw (arrivals_append (hears s x).next xs ys) (sym (append_assoc (option_to_list (hears s x).came) _ _))
 
 module _ (level : Bool) (f : Setting) where
   pulses_append : (m n : ℕ) → pulses_at (m + n) level f ≡ pulses_at m level f ++ pulses_at n level f
@@ -40,7 +41,7 @@ module _ (level : Bool) (f : Setting) where
   -- some of the pulses that are left
   pub hop-turn : (s : Sampler) (left : ℕ) (r : Hopped) → Hops s level f left r
       → (after_lines s (pulses_at left level f) ≡ after_lines r.sampler (pulses_at (left - r.pulses) level f))
-      × (arrivals s (pulses_at left level f) ≡ list_of r.came ++ arrivals r.sampler (pulses_at (left - r.pulses) level f))
+      × (arrivals s (pulses_at left level f) ≡ option_to_list r.came ++ arrivals r.sampler (pulses_at (left - r.pulses) level f))
   hop-turn s left r h =
       let few = h.few in
       let rest = pulses_at (left - r.pulses) level f in
@@ -67,7 +68,7 @@ module _ (level : Bool) (f : Setting) where
   one-after s n = refl
 
   one-arrives : (s : Sampler) (n : ℕ)
-      → arrivals s (pulses_at (suc n) level f) ≡ list_of (sample_of s level f).came ++ arrivals (sample_of s level f).next (pulses_at n level f)
+      → arrivals s (pulses_at (suc n) level f) ≡ option_to_list (sample_of s level f).came ++ arrivals (sample_of s level f).next (pulses_at n level f)
   unfolding arrivals hears
   one-arrives s n = refl
 
@@ -80,7 +81,7 @@ module _ (level : Bool) (f : Setting) where
   pub one-hops : (s : Sampler) (most : ℕ) → 0 < most → Hops s level f most (one_pulse (sample_of s level f))
   unfolding after_lines arrivals hears
   one-hops s most l =
-      record { some = omega arith; few = omega arith; sampler = refl; came = sym (append-nil (list_of (sample_of s level f).came)) }
+      record { some = omega arith; few = omega arith; sampler = refl; came = sym (append-nil (option_to_list (sample_of s level f).came)) }
 
   -- ---- a start, and a character ----
 

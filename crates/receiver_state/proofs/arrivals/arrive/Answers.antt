@@ -2,10 +2,10 @@
 use Rattle.receiver_state.specs.Arrivals.{arrived_of}
 use Rattle.receiver_state.proofs.arrivals.arrive.Goals as goal
 
-pub returns-in-NoCharacter : goal.returns-in-NoCharacter
+pub returns-in-None : goal.returns-in-None
 unfolding arrived_of
-returns-in-NoCharacter c = simp c.in-NoCharacter.is
+returns-in-None c = simp c.in-None.is
 
-pub returns-in-Arrival : goal.returns-in-Arrival
+pub returns-in-Some : goal.returns-in-Some
 unfolding arrived_of
-returns-in-Arrival c = simp (c.enter.ensures, c.in-Arrival.is)
+returns-in-Some c = simp (c.enter.ensures, c.in-Some.is)

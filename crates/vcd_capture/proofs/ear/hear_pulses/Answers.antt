@@ -2,7 +2,8 @@
 use Prim.Native.Nat.{◌-◌}
 use mathlib.Core.Path.{◌≡◌, refl, sym, ◌∙◌, ap}
 use native.Mathlib.Omega.{arith}
-use Rattle.sampler.specs.Lines.{list_of, arrivals}
+use Rattle.std.specs.Prelude.{option_to_list}
+use Rattle.sampler.specs.Lines.{arrivals}
 use Rattle.text.proofs.Laws.Puts.{puts_length, left_all, left_as, left_then, left_none}
 use Rattle.vcd_capture.specs.Logs.{log_bytes}
 use Rattle.vcd_capture.specs.Ear.{pulses_at}
@@ -25,8 +26,8 @@ loop-left-preserved c =
     let later = arrivals r.sampler (pulses_at (c.loop-left.left - r.pulses) a.level a.setting) in
     let p = c.take_came-next.ensures in
     let w = came_within r.came in
-    let l = log_length (list_of r.came) in
-    let rest = left_as (ap log_bytes turn.1 ∙ log_append (list_of r.came) later) c.loop-left.invariant.4 in (
+    let l = log_length (option_to_list r.came) in
+    let rest = left_as (ap log_bytes turn.1 ∙ log_append (option_to_list r.came) later) c.loop-left.invariant.4 in (
       omega (arith, h.some, h.few),
       omega (arith, p.ends, h.some, h.few),
       puts_length p ∙ c.loop-left.invariant.2,

@@ -1,17 +1,17 @@
 -- `take_came` meets its contract: a character, or none. Assumes nothing.
 use mathlib.Core.Path.{sym, ◌∙◌, ap}
-use Rattle.sampler_hunting.specs.declared.hunting.Came.{Came}
-use Rattle.sampler.specs.Lines.{list_of}
+use Rattle.std.specs.Prelude.{Option, option_to_list}
+use Rattle.character.specs.declared.character.Character.{Character}
 use Rattle.text.proofs.Laws.Puts.{puts_none, puts_as}
 use Rattle.vcd_capture.specs.Logs.{log_bytes}
 use Rattle.vcd_capture.proofs.Laws.Hearing.{log_none, log_one}
 use Rattle.vcd_capture.proofs.ear.take_came.Goals as goal
 
-pub returns-in-NoCharacter : goal.returns-in-NoCharacter
-returns-in-NoCharacter c =
+pub returns-in-None : goal.returns-in-None
+returns-in-None c =
     let a = c.args in
-    puts_as (sym (ap (λ (x : Came). log_bytes (list_of x)) c.in-NoCharacter.is ∙ log_none)) (puts_none a.at a.log.now)
+    puts_as (sym (ap (λ (x : Option Character). log_bytes (option_to_list x)) c.in-None.is ∙ log_none)) (puts_none a.at a.log.now)
 
-pub returns-in-Arrival : goal.returns-in-Arrival
-returns-in-Arrival c =
-    puts_as (sym (ap (λ (x : Came). log_bytes (list_of x)) c.in-Arrival.is ∙ log_one _)) c.put_character.ensures
+pub returns-in-Some : goal.returns-in-Some
+returns-in-Some c =
+    puts_as (sym (ap (λ (x : Option Character). log_bytes (option_to_list x)) c.in-Some.is ∙ log_one _)) c.put_character.ensures
