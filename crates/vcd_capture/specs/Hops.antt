@@ -1,6 +1,5 @@
 -- Pulses that find one level, as many at a time as only pass. Assumes nothing.
-use Rattle.std.specs.Prelude.{ℕ, ◌-◌, ◌≤◌, ◌<◌, ◌≡◌, Bool, ltb, None, option_to_list}
-use Rattle.format.specs.Pick.{pick}
+use Rattle.std.specs.Prelude.{ℕ, ◌-◌, ◌≤◌, ◌<◌, ◌≡◌, Bool, min, None, option_to_list}
 use Rattle.format.specs.declared.counts.Pulses.{Pulses}
 use Rattle.feed.specs.declared.feed.Setting.{Setting}
 use Rattle.sampler_state.specs.declared.state.Sampler.{Sampler}
@@ -16,10 +15,10 @@ abbrev pub staying : Sampler → ℕ → Hopped
 staying s n = record { sampler = s; came = None; pulses = n }
 
 -- the pulses before the one that decides, at most so many, and how many are left then
-unfoldable pub fewer : Pulses → ℕ → ℕ
-fewer left most = pick (ltb most left.0) most left.0
+abbrev pub fewer : Pulses → ℕ → ℕ
+fewer left most = min most left.0
 
-unfoldable pub fewer_left : Pulses → ℕ → Pulses
+abbrev pub fewer_left : Pulses → ℕ → Pulses
 fewer_left left most = record { 0 = left.0 - most }
 
 -- what is promised: at least one pulse and at most so many, the receiver after them, and what they brought

@@ -2,7 +2,7 @@
 ghost use Rattle.std.specs.Prelude.{◌^◌, ◌<◌, ◌≡◌, length};
 ghost use Rattle.vcd_capture.specs.Capture.{setting_of, end_of, CaptureMet, handed_of};
 
-use crate::ear::hear_wire;
+use crate::ear::{Wire, hear_wire};
 use dividers::period_of;
 use feed::Setting;
 use format::{format_of, mr1_not_modelled};
@@ -72,18 +72,28 @@ pub fn read_capture(
     if found.number != 0 {
         return refuse(found.number);
     }
-    let at = found.body;
-    let period = period_of(asked.acr7, asked.code);
+    let lines = &text[found.body..];
+    let period = period_of(asked.acr7, asked.code).0;
     let setting = setting_of(asked.mr1);
+    let wire_a = Wire {
+        code: found.code_a,
+        period,
+        setting,
+    };
+    let wire_b = Wire {
+        code: found.code_b,
+        period,
+        setting,
+    };
     let end = end_of(found.times);
     let mut none = [0u8; 0];
-    let length_a = hear_wire(text, at, found.code_a, period.0, setting, end, &mut none);
-    let length_b = hear_wire(text, at, found.code_b, period.0, setting, end, &mut none);
+    let length_a = hear_wire(lines, wire_a, end, &mut none);
+    let length_b = hear_wire(lines, wire_b, end, &mut none);
     if (log_a.len() < length_a) | (log_b.len() < length_b) {
         return refuse(8);
     }
-    hear_wire(text, at, found.code_a, period.0, setting, end, log_a);
-    hear_wire(text, at, found.code_b, period.0, setting, end, log_b);
+    hear_wire(lines, wire_a, end, log_a);
+    hear_wire(lines, wire_b, end, log_b);
     Captured {
         number: 0,
         length_a: length_a,

@@ -1,6 +1,6 @@
 // What a wire's receiver hears: "Turn each line, up to the last time, into characters by document 01's receiver, just enabled,
 // phase 0".
-ghost use Rattle.std.specs.Prelude.{◌+◌, ◌-◌, ◌*◌, ◌^◌, ◌≤◌, ◌<◌, ◌≡◌, length, drop, option_to_list};
+ghost use Rattle.std.specs.Prelude.{◌+◌, ◌*◌, ◌^◌, ◌≤◌, ◌<◌, ◌≡◌, option_to_list};
 ghost use Rattle.text.specs.Puts.{Puts};
 ghost use Rattle.vcd_capture.specs.Ear.{ticks_before, pulses_before, Hears, ear_until, heard_until, ear_value, ear_said, heard_said, heard_from, just_enabled, Moves};
 ghost use Rattle.vcd_lines.specs.Body.{started};
@@ -18,10 +18,7 @@ fn ticks_before(time: u64) -> u64
     requires { time < 2 ^ 33 }
     ensures { result ≡ ticks_before time }
 {
-    if time == 0 {
-        return 0;
-    }
-    (time * 2304 - 1) / 625000
+    (time * 2304).saturating_sub(1) / 625000
 }
 
 fn pulses_before(time: u64, period: u64) -> u64
@@ -32,15 +29,6 @@ fn pulses_before(time: u64, period: u64) -> u64
         return 0;
     }
     ticks_before(time) / period
-}
-
-fn pulses_left(before: u64, done: u64) -> u64
-    ensures { result ≡ before - done }
-{
-    if done < before {
-        return before - done;
-    }
-    0
 }
 
 #[derive(Clone, Copy)]
@@ -74,18 +62,25 @@ pub fn hear_pulses(
     let mut now_sampler = sampler;
     let mut next = at;
     let mut left = times;
+    // Kept: d, a turn takes a varying number of pulses, so that `left` counts down as no `for` does.
     while left > 0 {
         let hopped = hop(now_sampler, level, setting, left);
-        let came = hopped.came;
-        next = take_came(came, next, log);
-        let after = hopped.sampler;
-        now_sampler = after;
+        next = take_came(hopped.came, next, log);
+        now_sampler = hopped.sampler;
         left -= hopped.pulses;
     }
     Heard {
         sampler: now_sampler,
         at: next,
     }
+}
+
+// What is heard of a wire by: its code in the text, how many ticks a pulse takes, and the setting.
+#[derive(Clone, Copy)]
+pub struct Wire {
+    pub code: u8,
+    pub period: u64,
+    pub setting: Setting,
 }
 
 // A receiver, the level of its wire, and the pulses that have come.
@@ -97,23 +92,23 @@ pub struct Ear {
 }
 
 // After a line: the receiver, and the place in its log.
+// Kept: d, the place and the log go as `text`'s routines take them, so that each contract is one `Puts` from place to place.
 #[derive(Clone, Copy)]
 pub struct Step {
     pub ear: Ear,
     pub at: usize,
 }
 
-fn hear_until(ear: Ear, time: u64, period: u64, setting: Setting, at: usize, log: &mut [u8]) -> Step
+fn hear_until(ear: Ear, time: u64, wire: Wire, at: usize, log: &mut [u8]) -> Step
     requires { (time < 2 ^ 33) × (ear.done < 2 ^ 32) × (at ≤ 2 * ear.done) }
-    ensures { Moves ear (ear_until period setting time ear) (heard_until period setting time ear)
+    ensures { Moves ear (ear_until wire.period wire.setting time ear) (heard_until wire.period wire.setting time ear)
         at log.old log.new result }
 {
-    let times = pulses_left(pulses_before(time, period), ear.done);
-    let heard = hear_pulses(ear.sampler, ear.level, setting, times, at, log);
-    let sampler = heard.sampler;
+    let times = pulses_before(time, wire.period).saturating_sub(ear.done);
+    let heard = hear_pulses(ear.sampler, ear.level, wire.setting, times, at, log);
     Step {
         ear: Ear {
-            sampler: sampler,
+            sampler: heard.sampler,
             level: ear.level,
             done: ear.done + times,
         },
@@ -131,41 +126,25 @@ fn hear_value(ear: Ear, code: u8, level: bool, own: u8) -> Ear
     next
 }
 
-fn hear_said(
-    ear: Ear,
-    said: Said,
-    code: u8,
-    period: u64,
-    setting: Setting,
-    at: usize,
-    log: &mut [u8],
-) -> Step
+fn hear_said(ear: Ear, said: Said, wire: Wire, at: usize, log: &mut [u8]) -> Step
     requires { (ear.done < 2 ^ 32) × (at ≤ 2 * ear.done) }
-    ensures { Moves ear (ear_said period setting code ear said) (heard_said period setting ear said)
-        at log.old log.new result }
+    ensures { Moves ear (ear_said wire.period wire.setting wire.code ear said)
+        (heard_said wire.period wire.setting ear said) at log.old log.new result }
 {
     match said {
-        Said::NoLine => Step { ear: ear, at: at },
-        Said::TimeLine(time) => hear_until(ear, time as u64, period, setting, at, log),
-        Said::ValueLine(wire, level) => Step {
-            ear: hear_value(ear, wire, level, code),
-            at: at,
+        Said::NoLine => Step { ear, at },
+        Said::TimeLine(time) => hear_until(ear, u64::from(time), wire, at, log),
+        Said::ValueLine(code, level) => Step {
+            ear: hear_value(ear, code, level, wire.code),
+            at,
         },
     }
 }
 
 // The whole text after its header, and then the pulses up to the end.
-pub fn hear_wire(
-    text: &[u8],
-    at: usize,
-    code: u8,
-    period: u64,
-    setting: Setting,
-    end: u64,
-    log: &mut [u8],
-) -> usize
-    requires { (at ≤ length text.now) × (end < 2 ^ 33) }
-    ensures { Puts 0 (log_bytes (heard_from period setting code end started just_enabled (drop at text.now)))
+pub fn hear_wire(lines: &[u8], wire: Wire, end: u64, log: &mut [u8]) -> usize
+    requires { end < 2 ^ 33 }
+    ensures { Puts 0 (log_bytes (heard_from wire.period wire.setting wire.code end started just_enabled lines.now))
         log.old log.new result }
 {
     let mut reading = start();
@@ -175,17 +154,12 @@ pub fn hear_wire(
         done: 0,
     };
     let mut place = 0usize;
-    let mut i = at;
-    while i < text.len() {
-        let byte = text[i];
-        let said = say(reading, byte);
-        let step = hear_said(ear, said, code, period, setting, place, log);
-        let next = step.ear;
-        ear = next;
+    for byte in lines {
+        let said = say(reading, *byte);
+        let step = hear_said(ear, said, wire, place, log);
+        ear = step.ear;
         place = step.at;
-        reading = take(reading, byte, true);
-        i += 1;
+        reading = take(reading, *byte, true);
     }
-    let last = hear_until(ear, end, period, setting, place, log);
-    last.at
+    hear_until(ear, end, wire, place, log).at
 }

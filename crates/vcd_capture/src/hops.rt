@@ -24,11 +24,9 @@ pub struct Hopped {
 fn one_pulse(sampled: Sampled) -> Hopped
     ensures { result ≡ one_pulse sampled }
 {
-    let next = sampled.next;
-    let came = sampled.came;
     Hopped {
-        sampler: next,
-        came: came,
+        sampler: sampled.next,
+        came: sampled.came,
         pulses: 1,
     }
 }
@@ -37,9 +35,9 @@ fn stay(sampler: Sampler, pulses: u64) -> Hopped
     ensures { result ≡ staying sampler pulses }
 {
     Hopped {
-        sampler: sampler,
+        sampler,
         came: None,
-        pulses: pulses,
+        pulses,
     }
 }
 
@@ -47,19 +45,13 @@ fn stay(sampler: Sampler, pulses: u64) -> Hopped
 fn pass(left: Pulses, most: u64) -> u64
     ensures { result ≡ fewer left most }
 {
-    if most < left.0 as u64 {
-        return most;
-    }
-    left.0 as u64
+    most.min(u64::from(left.0))
 }
 
 fn left_after(left: Pulses, most: u64) -> Pulses
     ensures { result ≡ fewer_left left most }
 {
-    if most < left.0 as u64 {
-        return Pulses(left.0 - most as u8);
-    }
-    Pulses(0)
+    Pulses(left.0 - pass(left, most) as u8)
 }
 
 // Passed over: in a start and in a character the pulses before the one that decides, in a break the lows, and where a

@@ -10,28 +10,7 @@ use text::put;
 fn marks_byte(marks: Marks) -> u8
     ensures { result ≡ marks_byte marks }
 {
-    if marks.broken {
-        if marks.framing {
-            if marks.parity {
-                return 224;
-            }
-            return 192;
-        }
-        if marks.parity {
-            return 160;
-        }
-        return 128;
-    }
-    if marks.framing {
-        if marks.parity {
-            return 96;
-        }
-        return 64;
-    }
-    if marks.parity {
-        return 32;
-    }
-    0
+    128 * u8::from(marks.broken) + 64 * u8::from(marks.framing) + 32 * u8::from(marks.parity)
 }
 
 pub fn put_character(character: Character, at: usize, log: &mut [u8]) -> usize

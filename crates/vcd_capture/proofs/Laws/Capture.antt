@@ -1,5 +1,5 @@
 -- The answer and the logs by the test that decides them, in the order of the tests. Assumes nothing.
-use Prim.Native.Nat.{ℕ, ◌+◌}
+use Prim.Native.Nat.{ℕ, ◌+◌, ◌-◌}
 use mathlib.Core.Path.{◌≡◌, refl, sym, ◌∙◌, ap}
 use mathlib.Core.Bool.{Bool, true, false, ◌||◌, true≢false}
 use mathlib.Core.List.{List, [], ◌++◌}
@@ -8,6 +8,7 @@ use lib.Dec.{eqb, ltb}
 use lib.ListN.{length, take, drop}
 use lib.Seq.{take-append_seam}
 use borrow.Author.Tests.{eq-eqb, ne_eqb, ltb-false}
+use Rattle.std.proofs.lemmas.List.{take_rest}
 use Rattle.format.specs.Pick.{pick}
 use Rattle.format.specs.Format.{mr1_not_modelled}
 use Rattle.format.specs.declared.counts.Ticks.{Ticks}
@@ -32,12 +33,12 @@ both_false true y h = absurd (true≢false h)
 pub from_start : {end n : ℕ} → end ≡ 0 + n → end ≡ n
 from_start h = omega arith
 
--- what is heard of a wire, with what the code has worked out
+-- what is heard of a wire, with what the code has worked out: the lines are the slice from the header's end on
 pub heard_is : (q : Asked) (text a b : List ℕ) (p : Ticks) (f : Setting) (end : ℕ) (s : Scanned) → p ≡ period_of q.acr7 q.code → f ≡ setting_of q.mr1
     → end ≡ end_of s.times → s ≡ scan_of text a b
-    → (log_bytes (heard_from p.0 f s.code_a end started just_enabled (drop s.body text)) ≡ log_a q text a b)
-    × (log_bytes (heard_from p.0 f s.code_b end started just_enabled (drop s.body text)) ≡ log_b q text a b)
-heard_is q text a b p f end s ep ef ee es = (rw (ep, ef, ee, es), rw (ep, ef, ee, es))
+    → (log_bytes (heard_from p.0 f s.code_a end started just_enabled (take (length text - s.body) (drop s.body text))) ≡ log_a q text a b)
+    × (log_bytes (heard_from p.0 f s.code_b end started just_enabled (take (length text - s.body) (drop s.body text))) ≡ log_b q text a b)
+heard_is q text a b p f end s ep ef ee es = (rw (take_rest text s.body, ep, ef, ee, es), rw (take_rest text s.body, ep, ef, ee, es))
 
 module _ (q : Asked) (text a b la lb : List ℕ) where
   abbrev number : ℕ

@@ -4,8 +4,7 @@ use mathlib.Core.Path.{◌≡◌, refl, sym, ◌∙◌, ap}
 use mathlib.Core.Bool.{Bool, true, false, not, ◌||◌, false≢true}
 use mathlib.Core.List.{List, [], ◌∷◌, ◌++◌, append_assoc, append-nil}
 use native.Mathlib.Omega.{arith}
-use lib.Dec.{ltb}
-use borrow.Author.Tests.{eq-eqb, ne_eqb, ltb-true, ltb-false}
+use borrow.Author.Tests.{eq-eqb, ne_eqb}
 use Rattle.std.specs.Prelude.{option_to_list}
 use Rattle.format.specs.Pick.{pick}
 use Rattle.feed.specs.declared.feed.Setting.{Setting}
@@ -114,29 +113,22 @@ module _ (level : Bool) (f : Setting) where
   fewer-hops : (s : Sampler) (to : ℕ → Sampler) (most : ℕ) → 0 < s.left.0 → 0 < most
       → ((n : ℕ) → suc n ≤ s.left.0 → Passes s (suc n) (to (s.left.0 - suc n)))
       → Hops s level f most (staying (to (s.left.0 - most)) (fewer s.left most))
-  unfolding fewer pick
-  fewer-hops s to most l m pass = go (ltb most s.left.0) refl
+  fewer-hops s to most l m pass =
+      let n : ℕ = fewer s.left most in
+      let rest : s.left.0 - most ≡ s.left.0 - n = omega arith in
+      rw rest (passed s (to (s.left.0 - n)) n most (omega arith) (omega arith) (by n (omega arith) (omega arith)))
     where
       by : (n : ℕ) → 0 < n → n ≤ s.left.0 → Passes s n (to (s.left.0 - n))
       by zero z h = absurd (omega arith)
       by (suc n) z h = pass n h
 
-      go : (t : Bool) → ltb most s.left.0 ≡ t → Hops s level f most (staying (to (s.left.0 - most)) (pick t most s.left.0))
-      go true e = let less = ltb-true most s.left.0 e in passed s _ most most m (omega arith) (by most m (omega arith))
-      go false e =
-          let less = ltb-false most s.left.0 e in
-          let z : s.left.0 - most ≡ s.left.0 - s.left.0 = omega arith in
-          rw z (passed s _ s.left.0 most l (omega arith) (by s.left.0 l (omega arith)))
-
   pub start-hops : (s : Sampler) (most : ℕ) → s.phase ≡ 1 → 0 < s.left.0 → 0 < most
       → Hops s level f most (staying (starting s.setting (fewer_left s.left most)) (fewer s.left most))
-  unfolding fewer_left
   start-hops s most h l m =
       fewer-hops s (λ (k : ℕ). starting s.setting (record { 0 = k })) most l m (λ (n : ℕ) (b : suc n ≤ s.left.0). start-passes n s h b)
 
   pub bit-hops : (s : Sampler) (most : ℕ) → s.phase ≡ 2 → 0 < s.left.0 → 0 < most
       → Hops s level f most (staying (assembling s.setting (fewer_left s.left most) s.taken s.value) (fewer s.left most))
-  unfolding fewer_left
   bit-hops s most h l m =
       fewer-hops s (λ (k : ℕ). assembling s.setting (record { 0 = k }) s.taken s.value) most l m
       (λ (n : ℕ) (b : suc n ≤ s.left.0). bit-passes n s h b)

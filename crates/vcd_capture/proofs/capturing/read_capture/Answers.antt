@@ -28,12 +28,6 @@ returns-then-found-ne0 c =
     (by-text x.asked x.text.now x.name_a.now x.name_b.now x.log_a.now x.log_b.now m no)
     (c.refuse-then-found-ne0.ensures ∙ rw found)
 
-pub hear_wire-length_a-requires : goal.hear_wire-length_a-requires
-hear_wire-length_a-requires c = (c.scan-found.ensures.1, c.end_of-end.ensures.1)
-
-pub hear_wire-length_b-requires : goal.hear_wire-length_b-requires
-hear_wire-length_b-requires c = (c.scan-found.ensures.1, c.end_of-end.ensures.1)
-
 pub returns-then-log_a-length_a : goal.returns-then-log_a-length_a
 returns-then-log_a-length_a c =
     let x = c.args in
@@ -51,12 +45,6 @@ returns-then-log_a-length_a c =
     let nb : c.hear_wire-length_b.result ≡ length (log_b x.asked text a b) =
     from_start (rw logs.1 at c.hear_wire-length_b.ensures.ends) in
     refused x.asked text a b la lb 8 c.refuse-then-log_a-length_a.result refl (eight x.asked text a b la lb m inside (rw (← na, ← nb) c.if-log_a-length_a.true)) c.refuse-then-log_a-length_a.ensures
-
-pub hear_wire-requires : goal.hear_wire-requires
-hear_wire-requires c = (c.scan-found.ensures.1, c.end_of-end.ensures.1)
-
-pub hear_wire-requires-2 : goal.hear_wire-requires-2
-hear_wire-requires-2 c = (c.scan-found.ensures.1, c.end_of-end.ensures.1)
 
 pub returns : goal.returns
 returns c =

@@ -1,21 +1,15 @@
 -- `hear_pulses` meets its contract. The invariant of its loop: the pulses that are left lead to the end that is asked. Assumes nothing.
 use Prim.Native.Nat.{◌-◌}
-use mathlib.Core.Path.{◌≡◌, refl, sym, ◌∙◌, ap}
+use mathlib.Core.Path.{◌≡◌, sym, ◌∙◌, ap}
 use native.Mathlib.Omega.{arith}
 use Rattle.std.specs.Prelude.{option_to_list}
 use Rattle.sampler.specs.Lines.{arrivals}
-use Rattle.text.proofs.Laws.Puts.{puts_length, left_all, left_as, left_then, left_none}
+use Rattle.text.proofs.Laws.Puts.{puts_length, left_as, left_then, left_none}
 use Rattle.vcd_capture.specs.Logs.{log_bytes}
 use Rattle.vcd_capture.specs.Ear.{pulses_at}
 use Rattle.vcd_capture.proofs.Laws.Hops.{hop-turn}
 use Rattle.vcd_capture.proofs.Laws.Hearing.{log_append, log_length, came_within, no_after, no_arrivals}
 use Rattle.vcd_capture.proofs.ear.hear_pulses.Goals as goal
-
-pub loop-left-init : goal.loop-left-init
-loop-left-init c = (omega arith, omega arith, refl, refl, left_all _ _ _)
-
-pub take_came-next-requires : goal.take_came-next-requires
-take_came-next-requires c = omega (arith, c.requires)
 
 pub loop-left-preserved : goal.loop-left-preserved
 loop-left-preserved c =
@@ -34,9 +28,6 @@ loop-left-preserved c =
       sym turn.0 ∙ c.loop-left.invariant.3,
       left_then rest p,
     )
-
-pub shape_of-log : goal.shape_of-log
-shape_of-log c = c.loop-left.invariant.2
 
 pub returns : goal.returns
 returns c =

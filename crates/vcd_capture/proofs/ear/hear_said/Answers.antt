@@ -1,14 +1,9 @@
 -- `hear_said` meets its contract, line by line. Assumes nothing.
 use mathlib.Core.Path.{sym, ◌∙◌}
-use native.Mathlib.Omega.{arith}
 use Rattle.text.proofs.Laws.Puts.{puts_none, puts_as}
 use Rattle.vcd_capture.specs.Ear.{ear_said, heard_said}
 use Rattle.vcd_capture.proofs.Laws.Hearing.{log_none}
 use Rattle.vcd_capture.proofs.ear.hear_said.Goals as goal
-
-pub hear_until-requires : goal.hear_until-requires
-hear_until-requires c =
-    (omega arith, c.requires.0, c.requires.1)
 
 pub returns-in-NoLine : goal.returns-in-NoLine
 unfolding ear_said heard_said
@@ -23,8 +18,8 @@ pub returns-in-TimeLine : goal.returns-in-TimeLine
 unfolding ear_said heard_said
 returns-in-TimeLine c =
     record {
-      ear = rw c.in-TimeLine.is c.hear_until.ensures.ear;
-      puts = puts_as (rw c.in-TimeLine.is) c.hear_until.ensures.puts;
+      ear = rw (c.in-TimeLine.is, ← c.from.ensures) c.hear_until.ensures.ear;
+      puts = puts_as (rw (c.in-TimeLine.is, ← c.from.ensures)) c.hear_until.ensures.puts;
     }
 
 pub returns-in-ValueLine : goal.returns-in-ValueLine

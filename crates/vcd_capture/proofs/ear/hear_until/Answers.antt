@@ -10,24 +10,24 @@ use Rattle.vcd_capture.proofs.ear.hear_until.Goals as goal
 pub hear_pulses-heard-requires : goal.hear_pulses-heard-requires
 hear_pulses-heard-requires c =
     let a = c.args in
-    let few = pulses_within a.period a.time c.requires.0 in
+    let few = pulses_within a.wire.period a.time c.requires.0 in
     let n = c.pulses_before.ensures in
-    let m = c.pulses_left-times.ensures in
+    let m = c.saturating_sub-times.ensures in
     omega (arith, c.requires.1, c.requires.2)
 
 pub overflow_add-result : goal.overflow_add-result
 overflow_add-result c =
     let a = c.args in
-    let few = pulses_within a.period a.time c.requires.0 in
+    let few = pulses_within a.wire.period a.time c.requires.0 in
     let n = c.pulses_before.ensures in
-    let m = c.pulses_left-times.ensures in
+    let m = c.saturating_sub-times.ensures in
     omega (arith, c.requires.1, c.requires.2)
 
 pub returns : goal.returns
 unfolding ear_until heard_until
 returns c =
     let a = c.args in
-    let n : c.pulses_left-times.result ≡ pulses_before a.period a.time - a.ear.done = c.pulses_left-times.ensures ∙ rw c.pulses_before.ensures in
+    let n : c.saturating_sub-times.result ≡ pulses_before a.wire.period a.time - a.ear.done = c.saturating_sub-times.ensures ∙ rw c.pulses_before.ensures in
     record {
       ear = rw (c.hear_pulses-heard.ensures.sampler, n);
       puts = puts_as (rw n) c.hear_pulses-heard.ensures.puts;

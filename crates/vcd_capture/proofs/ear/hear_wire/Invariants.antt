@@ -1,5 +1,5 @@
 -- `hear_wire` meets its contract. The invariant of its loop: the bytes that are left lead to the log that is asked. Assumes nothing.
-use Prim.Native.Nat.{◌-◌, ◌*◌, ◌^◌, ◌≤◌, ◌<◌}
+use Prim.Native.Nat.{◌*◌, ◌^◌, ◌≤◌, ◌<◌}
 use mathlib.Core.Path.{◌≡◌}
 use lib.ListN.{length, drop}
 use Rattle.text.proofs.Laws.Puts.{Left}
@@ -8,11 +8,8 @@ use Rattle.vcd_capture.specs.Logs.{log_bytes}
 use Rattle.vcd_capture.specs.Ear.{heard_from, just_enabled}
 use Rattle.vcd_capture.proofs.ear.hear_wire.Given as goal
 
-abbrev pub invariant-loop-i : goal.invariant-loop-i
-invariant-loop-i l =
-    (l.i ≤ length l.text) × (l.reading.time ≤ 4000000000) × (l.ear.done < 2 ^ 32) × (l.place ≤ 2 * l.ear.done) × (length l.log ≡ length l.initial.log)
-    × Left 0 (log_bytes (heard_from l.period l.setting l.code l.end started just_enabled (drop l.at l.text))) l.initial.log l.place
-    (log_bytes (heard_from l.period l.setting l.code l.end l.reading l.ear (drop l.i l.text))) l.log
-
-abbrev pub decreases-loop-i : goal.decreases-loop-i
-decreases-loop-i l = length l.text - l.i
+abbrev pub invariant-loop-byte : goal.invariant-loop-byte
+invariant-loop-byte l =
+    (l.reading.time ≤ 4000000000) × (l.ear.done < 2 ^ 32) × (l.place ≤ 2 * l.ear.done) × (length l.log ≡ length l.initial.log)
+    × Left 0 (log_bytes (heard_from l.wire.period l.wire.setting l.wire.code l.end started just_enabled l.lines)) l.initial.log l.place
+    (log_bytes (heard_from l.wire.period l.wire.setting l.wire.code l.end l.reading l.ear (drop l.byte-index l.lines))) l.log

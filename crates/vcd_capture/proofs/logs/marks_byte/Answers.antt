@@ -1,36 +1,20 @@
--- `marks_byte` meets its contract: each mark is its bit. Assumes nothing.
-use Rattle.format.proofs.Laws.{steps}
+-- `marks_byte` meets its contract: a mark as a number is its bit. Assumes nothing.
+use Prim.Native.Nat.{ℕ, ◌*◌}
+use mathlib.Core.Path.{◌≡◌}
+use mathlib.Core.Bool.{Bool, true, false}
+use native.Mathlib.Omega.{arith}
+use mir.Val.{bool_byte}
+use Rattle.format.specs.Pick.{pick}
 use Rattle.vcd_capture.specs.Logs.{marks_byte}
 use Rattle.vcd_capture.proofs.logs.marks_byte.Goals as goal
 
-pub returns-then-marks-3 : goal.returns-then-marks-3
-unfolding marks_byte
-returns-then-marks-3 c = search steps
-
-pub returns-then-marks-2 : goal.returns-then-marks-2
-unfolding marks_byte
-returns-then-marks-2 c = search steps
-
-pub returns-then-marks-4 : goal.returns-then-marks-4
-unfolding marks_byte
-returns-then-marks-4 c = search steps
-
-pub returns-then-marks : goal.returns-then-marks
-unfolding marks_byte
-returns-then-marks c = search steps
-
-pub returns-then-marks-6 : goal.returns-then-marks-6
-unfolding marks_byte
-returns-then-marks-6 c = search steps
-
-pub returns-then-marks-5 : goal.returns-then-marks-5
-unfolding marks_byte
-returns-then-marks-5 c = search steps
-
-pub returns-then-marks-7 : goal.returns-then-marks-7
-unfolding marks_byte
-returns-then-marks-7 c = search steps
+weighed : (weight : ℕ) (mark : Bool) → weight * bool_byte mark ≡ pick mark weight 0
+unfolding pick
+weighed weight true = omega arith
+weighed weight false = omega arith
 
 pub returns : goal.returns
 unfolding marks_byte
-returns c = search steps
+returns c =
+    let m = c.args.marks in
+    rw (c.from.ensures, c.from-2.ensures, c.from-3.ensures, weighed 128 m.broken, weighed 64 m.framing, weighed 32 m.parity) (omega arith)
