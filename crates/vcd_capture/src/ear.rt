@@ -92,7 +92,7 @@ pub struct Ear {
 }
 
 // After a line: the receiver, and the place in its log.
-// Kept: d, the place and the log go as `text`'s routines take them, so that each contract is one `Puts` from place to place.
+// Kept: d, the place and the log go as `text` takes them, so that each contract is one `Puts` from place to place.
 #[derive(Clone, Copy)]
 pub struct Step {
     pub ear: Ear,
