@@ -1,11 +1,13 @@
 -- The frame request: "A separate request writes a frame's levels, one byte 0 or 1 per 16X pulse, at most 192, from MR1,
 -- MR2 and a byte; space past it stays. It answers the number and the length, 0 if refused." Assumes nothing.
-use Rattle.std.specs.Prelude.{ℕ, Bool, true, ◌||◌, List, ◌++◌, map, eqb, ltb, length, take, drop}
+use Rattle.std.specs.Prelude.{ℕ, Bool, true, ◌||◌, List, ◌++◌, map, eqb, ltb, length, take, drop, Result, Ok, Err}
 use Rattle.format.specs.declared.counts.Pulses.{Pulses}
 use Rattle.request.specs.declared.request.FrameAnswer.{FrameAnswer}
 use Rattle.format.specs.Pick.{pick}
 use Rattle.format.specs.Digits.{bit}
 use Rattle.format.specs.Format.{mr1_not_modelled, mr2_not_modelled, format_of, stop_code_of}
+use Rattle.refusal.specs.declared.refusal.Refusal.{Refusal}
+use Rattle.refusal.specs.Refusal.{number_of}
 use Rattle.frame.specs.Levels.{before_stop, levels, frame, frame_length_of}
 
 -- the pulses of the frame that is asked for, and its levels, one byte 0 or 1 for each
@@ -48,3 +50,8 @@ open_levels mr1 x n = map bit (levels 16 n (before_stop (format_of mr1) x))
 
 abbrev pub over_front : List ℕ → ℕ → List ℕ → List ℕ
 over_front l n s = take n l ++ drop n s
+
+-- the answer to a request that is granted so many pulses, or refused
+abbrev pub granted_answer : Result Pulses Refusal → FrameAnswer
+granted_answer (Ok pulses) = record { number = 0; length = pulses }
+granted_answer (Err refusal) = record { number = number_of refusal; length = record { 0 = 0 } }

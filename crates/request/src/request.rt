@@ -1,10 +1,10 @@
 // The frame request.
 ghost use Rattle.std.specs.Prelude.{◌≡◌, ◌≤◌, length};
-ghost use Rattle.format.specs.Digits.{bit};
-ghost use Rattle.request.specs.Request.{first_refusal, answer_of, request_of, open_levels, over_front, space_after};
+ghost use Rattle.request.specs.Request.{granted_answer, request_of, open_levels, over_front, space_after};
 
 use format::{Bits, Pulses, mr1_not_modelled, mr2_not_modelled};
 use frame::{frame_bits, frame_length, level_of};
+use refusal::Refusal;
 
 // What a frame request answers: the number of document 01's table, and the pulses written.
 #[repr(C)]
@@ -14,75 +14,46 @@ pub struct FrameAnswer {
     pub length: Pulses,
 }
 
-const ACCEPTED: u8 = 0;
-
-const NOT_MODELLED: u8 = 5;
-
-const SPACE_SHORT: u8 = 8;
-
-// "Checked in this order": the number is that of the first row that applies.
-fn first_refusal(not_modelled: bool, space_short: bool) -> u8
-    ensures { result ≡ first_refusal not_modelled space_short }
+// "Checked in this order": the frame's length, where neither row refuses it a space so long.
+fn grant(mr1: u8, mr2: u8, space: usize) -> Result<Pulses, Refusal>
+    ensures { granted_answer result ≡ request_of mr1 mr2 space }
 {
-    if not_modelled {
-        return NOT_MODELLED;
+    if mr1_not_modelled(mr1) | mr2_not_modelled(mr2) {
+        return Err(Refusal::SettingNotModelled);
     }
-    if space_short {
-        return SPACE_SHORT;
+    let pulses = frame_length(mr1, mr2, true);
+    if space < pulses.0 as usize {
+        return Err(Refusal::SpaceShort);
     }
-    ACCEPTED
+    Ok(pulses)
 }
 
-// "It answers the number and the length, 0 if refused."
-fn answer_of(number: u8, pulses: Pulses) -> FrameAnswer
-    ensures { result ≡ answer_of number pulses }
-{
-    if number == ACCEPTED {
-        return FrameAnswer {
-            number,
-            length: pulses,
-        };
-    }
-    FrameAnswer {
-        number,
-        length: Pulses(0),
-    }
-}
-
-// A level as a byte: 1 is high.
-fn level_byte(level: bool) -> u8
-    ensures { result ≡ bit level }
-{
-    if level { 1 } else { 0 }
-}
-
-// Writes the levels of so many pulses over the front of the space: the bits of a frame, and high
-// past them. The space must hold them, which the answer to a request sees to.
+// Writes the levels of so many pulses, a byte each, over the front of the space: the bits of a frame, and high past
+// them.
 fn write_levels(mr1: u8, byte: u8, pulses: Pulses, space: &mut [u8])
     requires { pulses.0 ≤ length space.old }
     ensures { space.new ≡ over_front (open_levels mr1 byte pulses.0) pulses.0 space.old }
 {
     let bits = frame_bits(mr1, byte);
-    let end = pulses.0;
-    let mut i = 0;
-    while i < end {
-        let at = i as usize;
-        space[at] = level_byte(level_of(bits, Bits(i / 16)));
-        i += 1;
+    for i in 0..pulses.0 {
+        space[i as usize] = u8::from(level_of(bits, Bits(i / 16)));
     }
 }
 
 // "A separate request writes a frame's levels, one byte 0 or 1 per 16X pulse, at most 192, from
-// MR1, MR2 and a byte; space past it stays."
+// MR1, MR2 and a byte; space past it stays. It answers the number and the length, 0 if refused."
 pub fn request_frame(mr1: u8, mr2: u8, byte: u8, space: &mut [u8]) -> FrameAnswer
     ensures answer { result ≡ request_of mr1 mr2 (length space.old) }
     ensures space { space.new ≡ space_after mr1 mr2 byte space.old }
 {
-    let not_modelled = mr1_not_modelled(mr1) | mr2_not_modelled(mr2);
-    let pulses = frame_length(mr1, mr2, true);
-    let end = pulses.0 as usize;
-    let space_short = space.len() < end;
-    let answer = answer_of(first_refusal(not_modelled, space_short), pulses);
-    write_levels(mr1, byte, answer.length, space);
-    answer
+    match grant(mr1, mr2, space.len()) {
+        Ok(length) => {
+            write_levels(mr1, byte, length, space);
+            FrameAnswer { number: 0, length }
+        }
+        Err(refusal) => FrameAnswer {
+            number: refusal.number(),
+            length: Pulses(0),
+        },
+    }
 }

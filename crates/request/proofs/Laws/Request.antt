@@ -14,6 +14,7 @@ use Rattle.format.specs.Pick.{pick}
 use Rattle.format.specs.Digits.{bit}
 use Rattle.format.specs.Format.{format_of, stop_code_of}
 use Rattle.frame.specs.Levels.{before_stop, levels, stop_pulses, frame, frame_length_of, frame_bits_of, level_of}
+use Rattle.request.specs.declared.request.FrameAnswer.{FrameAnswer}
 use Rattle.request.specs.Request.{length_asked, levels_asked, not_modelled, first_refusal, answer_of, request_of, open_levels, over_front, space_after}
 use Rattle.format.proofs.Laws.Digits.{bit_small}
 use Rattle.frame.proofs.Laws.Levels.{before_stop_most, length_before_stop, length_levels, levels_at, take_levels, frame_length}
@@ -82,3 +83,7 @@ over_asked mr1 mr2 x s = go (eqb (request_of mr1 mr2 (length s)).number 0)
     go : (t : Bool) → let n = (pick t (length_asked mr1 mr2) (record { 0 = 0 })).0 in over_front (open_levels mr1 x n) n s ≡ pick t (levels_asked mr1 mr2 x ++ drop (length_asked mr1 mr2).0 s) s
     go true = rw (open_frame mr1 mr2 x)
     go false = refl
+
+pub over_answered : (mr1 mr2 x : ℕ) (s : List ℕ) (answer : FrameAnswer) → answer ≡ request_of mr1 mr2 (length s)
+    → over_front (open_levels mr1 x answer.length.0) answer.length.0 s ≡ space_after mr1 mr2 x s
+over_answered mr1 mr2 x s answer told = rw told (over_asked mr1 mr2 x s)

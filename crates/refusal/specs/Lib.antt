@@ -1,0 +1,2 @@
+-- What a reader must believe of the refusals: the number of each.
+pub mod Refusal
