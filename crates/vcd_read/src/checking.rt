@@ -1,5 +1,5 @@
 // The lines after the header, all of them: whether they are in the subset, and their times.
-ghost use Rattle.std.specs.Prelude.{◌≤◌, ◌≡◌, length, drop};
+ghost use Rattle.std.specs.Prelude.{◌≡◌};
 ghost use Rattle.vcd_read.specs.Scan.{times_said, in_table, checked_by, checked_of, unchecked};
 
 use vcd_lines::{Reading, Said, say, start, take};
@@ -43,10 +43,9 @@ fn check_byte(checked: Checked, byte: u8, known: bool) -> Checked
     }
 }
 
-// The bytes from a place on; a code is known where the table has a 1.
-pub fn check_from(text: &[u8], at: usize, codes: &[u8; 256]) -> Checked
-    requires { at ≤ length text.now }
-    ensures { result ≡ checked_of (in_table codes.now) unchecked (drop at text.now) }
+// A code is known where the table has it.
+pub fn check(text: &[u8], codes: &[bool; 256]) -> Checked
+    ensures { result ≡ checked_of (in_table codes.now) unchecked text.now }
 {
     let mut checked = Checked {
         reading: start(),
@@ -56,12 +55,8 @@ pub fn check_from(text: &[u8], at: usize, codes: &[u8; 256]) -> Checked
             late: false,
         },
     };
-    let mut i = at;
-    while i < text.len() {
-        let byte = text[i];
-        let known = codes[byte as usize] == 1;
-        checked = check_byte(checked, byte, known);
-        i += 1;
+    for byte in text {
+        checked = check_byte(checked, *byte, codes[*byte as usize]);
     }
     checked
 }
