@@ -1,7 +1,7 @@
 -- A whole text: whether it is in the subset, its wires, its lines and their times. Order 7: "Read order 6's header for 1 to
 -- 16 wires .., then times up to 4,000,000,000 ns, no leading zeros, each with any value lines of those codes". Assumes
 -- nothing.
-use Rattle.std.specs.Prelude.{ℕ, ◌+◌, Bool, true, false, ◌&&◌, ◌||◌, List, [], ◌∷◌, ◌++◌, eqb, ltb, leb, length, drop}
+use Rattle.std.specs.Prelude.{ℕ, ◌+◌, Bool, false, ◌&&◌, ◌||◌, List, [], ◌∷◌, ◌++◌, eqb, ltb, leb, length, drop}
 use Rattle.std.specs.Prelude.{get_or, Option, None, Some}
 use Rattle.format.specs.Pick.{pick}
 use Rattle.vcd_text.specs.Header.{line_of}
@@ -20,10 +20,14 @@ use Rattle.vcd_read.specs.Wires.{starts, wires_in, wires_over, twice_of, has_cod
 
 -- no time yet; and one more, which may come too late
 abbrev pub no_times : Times
-no_times = record { some = false; last = 0; late = false }
+no_times = record { last = None; late = false }
+
+abbrev pub not_later : ℕ → Option ℕ → Bool
+not_later t None = false
+not_later t (Some last) = leb t last
 
 abbrev pub time_added : Times → ℕ → Times
-time_added x t = record { some = true; last = t; late = x.late || (x.some && leb t x.last) }
+time_added x t = record { last = Some t; late = x.late || not_later t x.last }
 
 unfoldable pub times_said : Times → Said → Times
 times_said x NoLine = x

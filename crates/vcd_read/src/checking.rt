@@ -1,14 +1,13 @@
 // The lines after the header, all of them: whether they are in the subset, and their times.
 ghost use Rattle.std.specs.Prelude.{◌≡◌};
-ghost use Rattle.vcd_read.specs.Scan.{times_said, in_table, checked_by, checked_of, unchecked};
+ghost use Rattle.vcd_read.specs.Scan.{not_later, times_said, in_table, checked_by, checked_of, unchecked};
 
 use vcd_lines::{Reading, Said, say, start, take};
 
-// Whether there is a time, the last one, and whether one was "not later than the one before".
+// The last time, where there is one, and whether one was "not later than the one before".
 #[derive(Clone, Copy)]
 pub struct Times {
-    pub some: bool,
-    pub last: u32,
+    pub last: Option<u32>,
     pub late: bool,
 }
 
@@ -18,17 +17,21 @@ pub struct Checked {
     pub times: Times,
 }
 
+fn not_later(time: u32, last: Option<u32>) -> bool
+    ensures { result ≡ not_later time last }
+{
+    last.is_some_and(|last| time <= last)
+}
+
 fn add_said(times: Times, said: Said) -> Times
     ensures { result ≡ times_said times said }
 {
     match said {
-        Said::NoLine => times,
         Said::TimeLine(time) => Times {
-            some: true,
-            last: time,
-            late: times.late | (times.some & (time <= times.last)),
+            last: Some(time),
+            late: times.late | not_later(time, times.last),
         },
-        Said::ValueLine(code, level) => times,
+        Said::NoLine | Said::ValueLine(_, _) => times,
     }
 }
 
@@ -50,8 +53,7 @@ pub fn check(text: &[u8], codes: &[bool; 256]) -> Checked
     let mut checked = Checked {
         reading: start(),
         times: Times {
-            some: false,
-            last: 0,
+            last: None,
             late: false,
         },
     };

@@ -65,8 +65,7 @@ fn refuse(number: u8) -> Scanned
         code_b: 0,
         body: 0,
         times: Times {
-            some: false,
-            last: 0,
+            last: None,
             late: false,
         },
     }

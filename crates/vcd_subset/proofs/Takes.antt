@@ -1,10 +1,10 @@
 -- Our reader takes the texts of the subset, by their wires and lines, and no others. Assumes nothing.
 use Prim.Native.Nat.{ℕ, suc, ◌≤◌}
 use mathlib.Core.Path.{◌≡◌, refl, sym, ◌∙◌, ap}
-use mathlib.Core.Bool.{Bool, true, false, ◌&&◌, ◌||◌, true≢false}
+use mathlib.Core.Bool.{Bool, true, false, ◌||◌, true≢false}
 use mathlib.Core.List.{List, [], ◌∷◌, ◌++◌}
 use native.Mathlib.Omega.{arith}
-use lib.Dec.{eqb, leb}
+use lib.Dec.{eqb}
 use lib.ListN.{length, drop}
 use borrow.Author.Tests.{eqb-true, lt-leb, leb-false}
 use Rattle.std.specs.Prelude.{Option, None, Some}
@@ -18,7 +18,7 @@ use Rattle.vcd_read.specs.declared.scanning.Scanned.{Scanned}
 use Rattle.vcd_lines.specs.Body.{started, read_all, lines_read}
 use Rattle.vcd_read.specs.declared.scanning.Header.{Header}
 use Rattle.vcd_read.specs.Wires.{wires_in, has_code}
-use Rattle.vcd_read.specs.Scan.{header_read, body_checked, no_times, time_added, times_from, unchecked, refused_by, judged, scan_with, scan_of}
+use Rattle.vcd_read.specs.Scan.{header_read, body_checked, no_times, not_later, time_added, times_from, unchecked, refused_by, judged, scan_with, scan_of}
 use Rattle.vcd_lines.proofs.Laws.Reads.{readable, lines-read}
 use Rattle.vcd_read.proofs.Laws.Header.{both_named}
 use Rattle.vcd_read.proofs.Laws.Checks.{checked_reads}
@@ -43,18 +43,19 @@ lines_back ws timed (Value c v ∷ ls) (t, (h, g)) = (t, (code_back ws c h, line
 -- ---- the times ----
 
 -- times that rise come in time, and times that come in time rise
-abbrev least : Times → ℕ
-least x = pick x.some (suc x.last) 0
+unfoldable least : Option ℕ → ℕ
+least None = 0
+least (Some last) = suc last
 
-in_time : (x : Times) (ls : List Line) → x.late ≡ false → RisesFrom (least x) (times_of ls) → (times_from x ls).late ≡ false
-unfolding RisesFrom times_of times_from pick
+in_time : (x : Times) (ls : List Line) → x.late ≡ false → RisesFrom (least x.last) (times_of ls) → (times_from x ls).late ≡ false
+unfolding RisesFrom times_of times_from least
 in_time x [] e r = e
 in_time x (Value c v ∷ ls) e r = in_time x ls e r
-in_time x (Time t ∷ ls) e (l, r) = in_time (time_added x t) ls (ok x.some e l) r
+in_time x (Time t ∷ ls) e (l, r) = in_time (time_added x t) ls (ok x.last e l) r
   where
-    ok : (b : Bool) → x.late ≡ false → pick b (suc x.last) 0 ≤ t → (x.late || (b && leb t x.last)) ≡ false
-    ok true e l = rw (e, lt-leb t x.last l)
-    ok false e l = rw e
+    ok : (o : Option ℕ) → x.late ≡ false → least o ≤ t → (x.late || not_later t o) ≡ false
+    ok (Some last) e l = rw (e, lt-leb t last l)
+    ok None e l = rw e
 
 stays_late : (x : Times) (ls : List Line) → x.late ≡ true → (times_from x ls).late ≡ true
 unfolding times_from
@@ -62,27 +63,27 @@ stays_late x [] e = e
 stays_late x (Value c v ∷ ls) e = stays_late x ls e
 stays_late x (Time t ∷ ls) e = stays_late (time_added x t) ls (rw e)
 
-rise_back : (x : Times) (ls : List Line) → (times_from x ls).late ≡ false → RisesFrom (least x) (times_of ls)
-unfolding RisesFrom times_of times_from pick
+rise_back : (x : Times) (ls : List Line) → (times_from x ls).late ≡ false → RisesFrom (least x.last) (times_of ls)
+unfolding RisesFrom times_of times_from least
 rise_back x [] e = tt
 rise_back x (Value c v ∷ ls) e = rise_back x ls e
 rise_back x (Time t ∷ ls) e = (go (time_added x t).late refl, rise_back (time_added x t) ls e)
   where
-    later : (some late : Bool) → (late || (some && leb t x.last)) ≡ false → pick some (suc x.last) 0 ≤ t
-    later true false h = leb-false t x.last h
-    later false late h = omega arith
-    later true true h = absurd (true≢false h)
+    later : (o : Option ℕ) (late : Bool) → (late || not_later t o) ≡ false → least o ≤ t
+    later (Some last) false h = leb-false t last h
+    later None late h = omega arith
+    later (Some last) true h = absurd (true≢false h)
 
-    go : (late : Bool) → (time_added x t).late ≡ late → least x ≤ t
+    go : (late : Bool) → (time_added x t).late ≡ late → least x.last ≤ t
     go true h = absurd (true≢false (sym (stays_late (time_added x t) ls h) ∙ e))
-    go false h = later x.some x.late h
+    go false h = later x.last x.late h
 
 pub rises_in_time : (ls : List Line) → RisesFrom 0 (times_of ls) → (times_from no_times ls).late ≡ false
-unfolding pick
+unfolding least
 rises_in_time ls r = in_time no_times ls refl r
 
 pub in_time_rises : (ls : List Line) → (times_from no_times ls).late ≡ false → RisesFrom 0 (times_of ls)
-unfolding pick
+unfolding least
 in_time_rises ls e = rise_back no_times ls e
 
 -- ---- the whole ----
