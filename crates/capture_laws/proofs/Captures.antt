@@ -8,6 +8,7 @@ use native.Mathlib.Omega.{arith}
 use lib.Dec.{ltb}
 use lib.ListN.{length, drop, get_or}
 use borrow.Author.Tests.{ne_eqb, le-ltb, ltb-false, leb-true, leb-false}
+use Rattle.std.specs.Prelude.{Some}
 use Rattle.format.specs.Pick.{pick}
 use Rattle.format.specs.Format.{mr1_not_modelled, format_of}
 use Rattle.feed.specs.declared.feed.Setting.{Setting}
@@ -31,7 +32,7 @@ use Rattle.vcd_subset.proofs.Takes.{lines_are, rises_in_time, in_time_rises, tak
 use Rattle.vcd_capture.specs.declared.capturing.Asked.{Asked}
 use Rattle.vcd_capture.specs.Logs.{log_bytes}
 use Rattle.vcd_capture.specs.Ear.{ticks_before, pulses_before, heard_from, just_enabled}
-use Rattle.vcd_capture.specs.Capture.{setting_of, end_of, capture_refusal, log_a, log_b, number_of}
+use Rattle.vcd_capture.specs.Capture.{setting_of, end_after, end_of, capture_refusal, log_a, log_b, number_of}
 use Rattle.vcd_capture.specs.Waves.{level_pulses, NoneAfter}
 use Rattle.vcd_capture.proofs.Laws.Waves.{early, late, text-heard}
 use Rattle.capture_laws.specs.Captures.{period_for, Heard, last_of, HeardBy, sampled_on, Logged, Modelled, Log, Captures}
@@ -39,25 +40,25 @@ use Rattle.capture_laws.specs.Captures.{period_for, Heard, last_of, HeardBy, sam
 -- ---- the last time ----
 
 -- it is no earlier than one before it
-last_grows : (x : Times) (ls : List Line) → x.some ≡ true → RisesFrom (suc x.last) (times_of ls) → x.last + 1 ≤ end_of (times_from x ls)
-unfolding RisesFrom times_of times_from end_of pick
-last_grows x [] e r = rw e (omega arith)
-last_grows x (Value c v ∷ ls) e r = last_grows x ls e r
-last_grows x (Time t ∷ ls) e (l, r) = let h = last_grows (time_added x t) ls refl r in omega arith
+last_grows : (x : Times) (u : ℕ) (ls : List Line) → x.last ≡ Some u → RisesFrom (suc u) (times_of ls) → u + 1 ≤ end_of (times_from x ls)
+unfolding RisesFrom times_of times_from end_after
+last_grows x u [] e r = rw e (omega arith)
+last_grows x u (Value c v ∷ ls) e r = last_grows x u ls e r
+last_grows x u (Time t ∷ ls) e (l, r) = let h = last_grows (time_added x t) t ls refl r in omega arith
 
 none_after : (x : Times) (u : ℕ) (ls : List Line) → RisesFrom u (times_of ls) → NoneAfter (end_of (times_from x ls)) ls
 unfolding RisesFrom times_of times_from NoneAfter
 none_after x u [] r = tt
 none_after x u (Value c v ∷ ls) r = none_after x u ls r
 none_after x u (Time t ∷ ls) (l, r) =
-    let h = last_grows (time_added x t) ls refl r in
+    let h = last_grows (time_added x t) t ls refl r in
     (omega arith, none_after (time_added x t) (suc t) ls r)
 
-end_is : (x : Times) (ls : List Line) → x.some ≡ true → end_of (times_from x ls) ≡ last_of x.last (times_of ls) + 1
-unfolding times_of times_from end_of last_of pick
-end_is x [] e = rw e
-end_is x (Value c v ∷ ls) e = end_is x ls e
-end_is x (Time t ∷ ls) e = end_is (time_added x t) ls refl
+end_is : (x : Times) (u : ℕ) (ls : List Line) → x.last ≡ Some u → end_of (times_from x ls) ≡ last_of u (times_of ls) + 1
+unfolding times_of times_from end_after last_of
+end_is x u [] e = rw e
+end_is x u (Value c v ∷ ls) e = end_is x u ls e
+end_is x u (Time t ∷ ls) e = end_is (time_added x t) t ls refl
 
 -- ---- the levels ----
 
@@ -82,7 +83,7 @@ some_times x (Value c v ∷ ls) t ts e = some_times x ls t ts e
 some_times x (Time u ∷ ls) t ts e =
     let first : u ≡ t = ap (λ (l : List ℕ). get_or l 0 0) e in
     let rest : times_of ls ≡ ts = ap (drop 1) e in
-    end_is (time_added x u) ls refl ∙ rw (first, rest)
+    end_is (time_added x u) u ls refl ∙ rw (first, rest)
 
 no_pulses : (p : ℕ) → pulses_before (suc p) 0 ≡ 0
 unfolding pulses_before ticks_before pick
@@ -119,7 +120,7 @@ module _ (q : Asked) (p : ℕ) (period : period_for q ≡ suc p) (code : ℕ) (l
   heard-none = rw (no_pulses p)
 
   heard-by : (ts : List ℕ) → times_of ls ≡ ts → HeardBy q (sampled_on code ls) ts (heard_of (pulses_before (suc p) (end_of (times_from no_times ls))))
-  unfolding HeardBy end_of pick
+  unfolding HeardBy end_after pick
   heard-by [] e = rw (no_times_lem no_times ls e) heard-none
   heard-by (t ∷ ts) e = rw (some_times no_times ls t ts e) (heard-up-to (last_of t ts))
 

@@ -6,6 +6,7 @@ use mathlib.Core.List.{List, [], ◌∷◌, ◌++◌, map}
 use native.Mathlib.Omega.{arith}
 use lib.Dec.{eqb}
 use lib.ListN.{length, drop, get_or, length-map}
+use Rattle.std.specs.Prelude.{Some}
 use Rattle.format.specs.Pick.{pick}
 use Rattle.format.proofs.Laws.Pick.{pick_all}
 use Rattle.events.specs.declared.events.Event.{Event}
@@ -21,7 +22,8 @@ use Rattle.vcd_text.specs.Changes.{differ}
 use Rattle.vcd_text.specs.Lines.{Line, times_of}
 use Rattle.vcd_text.specs.Lines.Line.{Time, Value}
 use Rattle.vcd_read.specs.Wires.{starts, name_of, is_wire, wires_of, wires_end, clash_of, twice_of, has_code, code_named}
-use Rattle.vcd_read.specs.Scan.{header_read}
+use Rattle.vcd_read.specs.declared.scanning.Header.{Header}
+use Rattle.vcd_read.specs.Scan.{named_header, header_read}
 use Rattle.vcd_dump.specs.Waves.{values_of, waves_from}
 use Rattle.vcd_dump.specs.Dump.{events_text}
 use Rattle.vcd_laws.proofs.Lines.{changes_of, timed, lines_of}
@@ -39,13 +41,16 @@ wires_read : (rest : List ℕ) → wires_of 17 (drop 46 (header_of chip_wires ++
 unfolding header_of wire_line wire_lines wires_from chip_wires Written.line_of bytes_of starts name_of is_wire wires_of pick
 wires_read rest = refl
 
-header_read_lem : (rest : List ℕ) → (header_read (header_of chip_wires ++ rest) (bytes_of "TxDA") (bytes_of "TxDB")).inside ≡ true
-unfolding header_of wire_line wire_lines wires_from chip_wires Written.line_of bytes_of starts name_of is_wire wires_of wires_end clash_of twice_of code_named header_read pick
+abbrev chip_header : Header
+chip_header = record { code_a = 33; code_b = 34; body = 336 }
+
+header_read_lem : (rest : List ℕ) → header_read (header_of chip_wires ++ rest) (bytes_of "TxDA") (bytes_of "TxDB") ≡ Some chip_header
+unfolding header_of wire_line wire_lines wires_from chip_wires Written.line_of bytes_of starts name_of is_wire wires_of wires_end clash_of twice_of code_named named_header header_read pick
 header_read_lem rest = refl
 
 wires_good : GoodWires chip_wires
 wires_good =
-    let found = header_back (header_of chip_wires ++ []) (bytes_of "TxDA") (bytes_of "TxDB") (header_read_lem []) in
+    let found = header_back (header_of chip_wires ++ []) (bytes_of "TxDA") (bytes_of "TxDB") chip_header (header_read_lem []) in
     subst (λ (ws : List Wire). GoodWires ws) (wires_read []) found.wires
 
 -- the eleven codes are the header's

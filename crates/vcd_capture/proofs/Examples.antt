@@ -10,6 +10,7 @@ use Rattle.feed.specs.declared.feed.Setting.{Setting}
 use Rattle.sampler.specs.Lines as Hearing
 use Rattle.vcd_text.specs.Time.{time_of}
 use Rattle.vcd_text.specs.Lines.Line.{Time, Value}
+use Rattle.std.specs.Prelude.{None, Some}
 use Rattle.vcd_read.specs.declared.checking.Times.{Times}
 use Rattle.vcd_read.specs.declared.scanning.Scanned.{Scanned}
 use Rattle.vcd_capture.specs.declared.capturing.Asked.{Asked}
@@ -31,11 +32,11 @@ ticks = refl
 
 -- "up to the last time": a tick at that time counts; where there is no time, none does
 abbrev last : ℕ → Times
-last t = record { some = true; last = t; late = false }
+last t = record { last = Some t; late = false }
 
 pub last_ticks : (map (λ (t : ℕ). ticks_before (end_of (last t))) (0 ∷ 270 ∷ 271 ∷ 541 ∷ 542 ∷ 4000000000 ∷ [])
     ≡ 0 ∷ 0 ∷ 1 ∷ 1 ∷ 2 ∷ 14745600 ∷ [])
-    × (end_of (record { some = false; last = 0; late = false }) ≡ 0)
+    × (end_of (record { last = None; late = false }) ≡ 0)
 unfolding capturing
 last_ticks = (refl, refl)
 

@@ -2,11 +2,12 @@
 -- are those of Computing.antt: RxDA has a 21, RxDB a 10. Assumes nothing.
 use Prim.Native.Nat.{ℕ, ◌+◌, ◌*◌, ◌/◌}
 use Prim.Native.String.{String}
-use mathlib.Core.Path.{◌≡◌, sym, ◌∙◌, ap}
+use mathlib.Core.Path.{◌≡◌, refl, sym, ◌∙◌, ap}
 use mathlib.Core.Bool.{Bool, true, false}
 use mathlib.Core.List.{List, [], ◌∷◌, ◌++◌}
 use native.Mathlib.Omega.{arith}
 use lib.ListN.{length, take, get_or}
+use Rattle.std.specs.Prelude.{Some}
 use Rattle.vcd_read.specs.declared.checking.Times.{Times}
 use Rattle.vcd_capture.specs.declared.capturing.Asked.{Asked}
 use Rattle.vcd_capture.specs.Logs.{marks_byte}
@@ -41,9 +42,9 @@ unfolding capturing
 no_rounded_up h = omega (arith, h 1)
 
 -- "up to the last time": this one leaves it out
-no_last_time_left_out : ((t : Times) → t.last ≡ end_of t) → ⊥
+no_last_time_left_out : ((t : Times) (last : ℕ) → t.last ≡ Some last → last ≡ end_of t) → ⊥
 unfolding capturing
-no_last_time_left_out h = omega (arith, h (record { some = true; last = 271; late = false }))
+no_last_time_left_out h = omega (arith, h (record { last = Some 271; late = false }) 271 refl)
 
 no_stop_left_out : 0 ≡ length (handed fast both false) → ⊥
 unfolding capturing

@@ -1,7 +1,7 @@
 -- Order 7: "Customers send value change dumps of the real chip's two RxD lines. .. Turn each line, up to the last time, into
 -- characters by document 01's receiver, just enabled, phase 0, for a given MR1, ACR bit 7 and CSR code 0 to 12." Assumes
 -- nothing.
-use Rattle.std.specs.Prelude.{ℕ, ◌+◌, ◌≡◌, Bool, true, ◌||◌, List, [], ◌++◌, eqb, ltb, length, drop}
+use Rattle.std.specs.Prelude.{ℕ, ◌+◌, ◌≡◌, Bool, true, ◌||◌, List, [], ◌++◌, eqb, ltb, length, drop, Option, None, Some}
 use Rattle.format.specs.Pick.{pick}
 use Rattle.format.specs.Format.{mr1_not_modelled, format_of}
 use Rattle.feed.specs.declared.feed.Setting.{Setting}
@@ -21,8 +21,12 @@ unfoldable pub setting_of : ℕ → Setting
 setting_of mr1 = record { format = format_of mr1; sixteen = true }
 
 -- "up to the last time": ticks at that time count; where there is none, no tick does
-unfoldable pub end_of : Times → ℕ
-end_of t = pick t.some (t.last + 1) 0
+unfoldable pub end_after : Option ℕ → ℕ
+end_after None = 0
+end_after (Some last) = last + 1
+
+abbrev pub end_of : Times → ℕ
+end_of t = end_after t.last
 
 -- the characters of the wire with this code, and their bytes
 abbrev pub characters_of : Asked → List ℕ → Scanned → ℕ → List Character

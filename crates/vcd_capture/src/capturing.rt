@@ -36,10 +36,10 @@ fn setting_of(mr1: u8) -> Setting
 fn end_of(times: Times) -> u64
     ensures { (result ≡ end_of times) × (result < 2 ^ 33) }
 {
-    if times.some {
-        return times.last as u64 + 1;
+    match times.last {
+        Some(last) => u64::from(last) + 1,
+        None => 0,
     }
-    0
 }
 
 fn refuse(number: u8) -> Captured

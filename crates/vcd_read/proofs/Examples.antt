@@ -6,6 +6,7 @@ use mathlib.Core.Path.{◌≡◌, refl}
 use mathlib.Core.Bool.{true, false}
 use mathlib.Core.List.{List, [], ◌∷◌, ◌++◌, map}
 use lib.ListN.{take, drop}
+use Rattle.std.specs.Prelude.{None, Some}
 use Rattle.text.specs.Bytes.{bytes_of}
 use Rattle.vcd_text.specs.Lines.Line.{Time, Value}
 use Rattle.vcd_read.specs.declared.scanning.Scanned.{Scanned}
@@ -251,7 +252,7 @@ pub found_whole : (found ("#271" ∷ "0!" ∷ "#4000000000" ∷ [])
       code_a = 33;
       code_b = 34;
       body = 129;
-      times = record { some = true; last = 4000000000; late = false };
+      times = record { last = Some 4000000000; late = false };
     })
     × (drop 129 (dump ("#271" ∷ "0!" ∷ [])) ≡ lines ("#271" ∷ "0!" ∷ []))
 unfolding reading
@@ -263,7 +264,7 @@ unfolding reading
 found_exchanged = (refl, refl)
 
 -- time 0 is a time; a text with none has none
-pub last_times : ((found ("#0" ∷ [])).times ≡ record { some = true; last = 0; late = false })
-    × ((found []).times ≡ record { some = false; last = 0; late = false })
+pub last_times : ((found ("#0" ∷ [])).times ≡ record { last = Some 0; late = false })
+    × ((found []).times ≡ record { last = None; late = false })
 unfolding reading
 last_times = (refl, refl)

@@ -4,6 +4,7 @@ use Prim.Native.String.{String}
 use mathlib.Core.Path.{◌≡◌, sym, ◌∙◌, ap}
 use mathlib.Core.List.{List, [], ◌∷◌, ◌++◌}
 use native.Mathlib.Omega.{arith}
+use Rattle.std.specs.Prelude.{Some}
 use Rattle.text.specs.Bytes.{bytes_of}
 use Rattle.vcd_read.specs.declared.scanning.Scanned.{Scanned}
 use Rattle.vcd_read.specs.Scan.{scan_of}
@@ -58,13 +59,13 @@ unfolding reading
 no_limit_refused = omega arith
 
 -- 2^32 + 5, and twenty digits, 2^64 + 5: a count that wraps has them at 5
-no_wraps32 : 5 ≡ (found ("#4294967301" ∷ [])).times.last → ⊥
+no_wraps32 : Some 5 ≡ (found ("#4294967301" ∷ [])).times.last → ⊥
 unfolding reading
-no_wraps32 = omega arith
+no_wraps32 h = cc
 
-no_wraps64 : 5 ≡ (found ("#18446744073709551621" ∷ [])).times.last → ⊥
+no_wraps64 : Some 5 ≡ (found ("#18446744073709551621" ∷ [])).times.last → ⊥
 unfolding reading
-no_wraps64 = omega arith
+no_wraps64 h = cc
 
 no_twenty_digits : 0 ≡ (found ("#18446744073709551621" ∷ [])).number → ⊥
 unfolding reading
@@ -141,4 +142,4 @@ no_none_refused h = omega (arith, h [] [] [])
 -- one that stops at the first line after the header
 no_first_line_alone : (found ("#0" ∷ [])).times.last ≡ (found ("#0" ∷ "#271" ∷ [])).times.last → ⊥
 unfolding reading
-no_first_line_alone = omega arith
+no_first_line_alone h = let e : ◌≡◌ {A = ℕ} 0 271 = cc in omega arith

@@ -1,10 +1,10 @@
 -- A whole text: whether it is in the subset, its wires, its lines and their times. Order 7: "Read order 6's header for 1 to
 -- 16 wires .., then times up to 4,000,000,000 ns, no leading zeros, each with any value lines of those codes". Assumes
 -- nothing.
-use Rattle.std.specs.Prelude.{ℕ, ◌+◌, Bool, true, false, ◌&&◌, ◌||◌, List, [], ◌∷◌, ◌++◌, eqb, ltb, leb, length, drop}
-use Rattle.std.specs.Prelude.{get_or}
+use Rattle.std.specs.Prelude.{ℕ, ◌+◌, Bool, false, ◌&&◌, ◌||◌, List, [], ◌∷◌, ◌++◌, eqb, ltb, leb, length, drop}
+use Rattle.std.specs.Prelude.{get_or, Option, None, Some}
 use Rattle.format.specs.Pick.{pick}
-use Rattle.vcd_text.specs.Header.{Wire, line_of}
+use Rattle.vcd_text.specs.Header.{line_of}
 use Rattle.vcd_text.specs.Lines.{Line}
 use Rattle.vcd_text.specs.Lines.Line.{Time, Value}
 use Rattle.vcd_read.specs.declared.checking.Checked.{Checked}
@@ -14,16 +14,20 @@ use Rattle.vcd_read.specs.declared.scanning.Scanned.{Scanned}
 use Rattle.vcd_lines.specs.declared.body.Said.{Said}
 use Rattle.vcd_lines.specs.declared.body.Said.TheVariants.{NoLine, TimeLine, ValueLine}
 use Rattle.vcd_lines.specs.Body.{started, taken_of, said_of}
-use Rattle.vcd_read.specs.Wires.{starts, wires_of, wires_end, twice_of, has_code, code_named}
+use Rattle.vcd_read.specs.Wires.{starts, wires_in, wires_over, twice_of, has_code, code_named}
 
 -- ---- the times ----
 
 -- no time yet; and one more, which may come too late
 abbrev pub no_times : Times
-no_times = record { some = false; last = 0; late = false }
+no_times = record { last = None; late = false }
+
+abbrev pub not_later : ℕ → Option ℕ → Bool
+not_later t None = false
+not_later t (Some last) = leb t last
 
 abbrev pub time_added : Times → ℕ → Times
-time_added x t = record { some = true; last = t; late = x.late || (x.some && leb t x.last) }
+time_added x t = record { last = Some t; late = x.late || not_later t x.last }
 
 unfoldable pub times_said : Times → Said → Times
 times_said x NoLine = x
@@ -39,8 +43,8 @@ times_from x (Value c v ∷ ls) = times_from x ls
 -- ---- the lines after the header ----
 
 -- the codes of a table
-abbrev pub in_table : List ℕ → ℕ → Bool
-in_table codes b = eqb (get_or codes b 0) 1
+abbrev pub in_table : List Bool → ℕ → Bool
+in_table codes b = get_or codes b false
 
 -- what is known of the bytes so far, with one more; and with many
 unfoldable pub checked_by : Checked → ℕ → Bool → Checked
@@ -63,33 +67,27 @@ open_words = line_of "$timescale 1 ns $end" ++ line_of "$scope module duart $end
 abbrev pub close_words : List ℕ
 close_words = line_of "$upscope $end" ++ line_of "$enddefinitions $end"
 
--- the wires, which begin with the 47th byte, and where their lines end
-abbrev pub wires_in : List ℕ → List Wire
-wires_in text = wires_of 17 (drop 46 text)
+-- "1 to 16 wires"
+abbrev pub few : ℕ → Bool
+few n = ltb 0 n && ltb n 17
 
-abbrev pub wires_over : List ℕ → ℕ
-wires_over text = 46 + wires_end 17 (drop 46 text)
-
-abbrev pub no_header : Header
-no_header = record { inside = false; code_a = 0; code_b = 0; body = 0 }
+-- no "named wire missing"
+unfoldable pub named_header : Option ℕ → Option ℕ → ℕ → Option Header
+named_header (Some a) (Some b) body = Some (record { code_a = a; code_b = b; body = body })
+named_header None b body = None
+named_header (Some a) None body = None
 
 -- "1 to 16 wires", "each once", and no "named wire missing"; the names are of the wires of A and B
-unfoldable pub header_read : List ℕ → List ℕ → List ℕ → Header
+unfoldable pub header_read : List ℕ → List ℕ → List ℕ → Option Header
 header_read text a b =
     pick (starts open_words text)
-    (pick (ltb 0 (length (wires_in text)) && ltb (length (wires_in text)) 17)
-    (pick (twice_of (wires_in text)) no_header
+    (pick (few (length (wires_in text)))
+    (pick (twice_of (wires_in text)) None
     (pick (starts close_words (drop (wires_over text) text))
-    (pick (eqb (code_named a (wires_in text)) 0 || eqb (code_named b (wires_in text)) 0) no_header
-    (record {
-      inside = true;
-      code_a = code_named a (wires_in text);
-      code_b = code_named b (wires_in text);
-      body = wires_over text + 35;
-    }))
-    no_header))
-    no_header)
-    no_header
+    (named_header (code_named a (wires_in text)) (code_named b (wires_in text)) (wires_over text + 35))
+    None))
+    None)
+    None
 
 -- ---- the whole ----
 
@@ -108,8 +106,9 @@ judged h x =
     (record { number = 0; code_a = h.code_a; code_b = h.code_b; body = h.body; times = x.times }))
     (refused_by 10)
 
+unfoldable pub scan_with : List ℕ → Option Header → Scanned
+scan_with text None = refused_by 10
+scan_with text (Some h) = judged h (body_checked text h.body)
+
 unfoldable pub scan_of : List ℕ → List ℕ → List ℕ → Scanned
-scan_of text a b =
-    pick (header_read text a b).inside
-    (judged (header_read text a b) (body_checked text (header_read text a b).body))
-    (refused_by 10)
+scan_of text a b = scan_with text (header_read text a b)

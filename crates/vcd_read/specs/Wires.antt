@@ -1,11 +1,12 @@
 -- The wires of a header. Order 7: "1 to 16 wires (names of 1 to 32 characters and one-character codes, ! to ~, each once)".
 -- A text is looked at from some place on. Assumes nothing.
-use Rattle.std.specs.Prelude.{ℕ, zero, suc, ◌+◌, Bool, true, false, ◌&&◌, ◌||◌, List, [], ◌∷◌, eqb, ltb, length, drop}
-use Rattle.std.specs.Prelude.{get_or, set}
+use Rattle.std.specs.Prelude.{ℕ, zero, suc, ◌+◌, ◌≡◌, Bool, true, false, ◌&&◌, ◌||◌, List, [], ◌∷◌, eqb, ltb, length, drop}
+use Rattle.std.specs.Prelude.{get_or, set, Option, None, Some}
+use denote.Ref.{Bor}
 use Rattle.format.specs.Pick.{pick}
 use Rattle.text.specs.Bytes.{bytes_of}
 use Rattle.vcd_text.specs.Header.{Wire, line_of}
-use Rattle.vcd_read.specs.declared.wires.WireAt.{WireAt}
+use Rattle.vcd_read.specs.declared.wires.WireHere.{WireHere}
 use Rattle.vcd_read.specs.declared.wires.Wires.{Wires}
 
 -- whether a text begins with these bytes
@@ -53,15 +54,13 @@ is_wire text =
 abbrev pub wire_end : List ℕ → ℕ
 wire_end text = length (name_here text) + 20
 
--- as the code has it, of a text from a place on
-abbrev pub no_wire : WireAt
-no_wire = record { here = false; code = 0; length = 0; end = 0 }
+-- as the code has it: the wire, and the text after its line
+abbrev pub told : WireHere → Wire
+told w = record { code = w.code; name = w.name.now }
 
-unfoldable pub wire_at : List ℕ → ℕ → WireAt
-wire_at text at =
-    pick (is_wire text)
-    (record { here = true; code = get_or text 12 0; length = length (name_here text); end = at + wire_end text })
-    no_wire
+abbrev pub IsWireAt : List ℕ → Option (WireHere × Bor (List ℕ)) → Type 0
+IsWireAt text None = is_wire text ≡ false
+IsWireAt text (Some p) = (is_wire text ≡ true) × (told p.0 ≡ wire_here text) × (p.1.now ≡ drop (wire_end text) text)
 
 -- the wires that a text begins with, at most so many
 unfoldable pub wires_of : ℕ → List ℕ → List Wire
@@ -73,8 +72,24 @@ unfoldable pub wires_end : ℕ → List ℕ → ℕ
 wires_end zero text = 0
 wires_end (suc n) text = pick (is_wire text) (wire_end text + wires_end n (drop (wire_end text) text)) 0
 
-abbrev pub wires_at : List ℕ → ℕ → Wires
-wires_at text at = record { count = length (wires_of 17 text); end = at + wires_end 17 text }
+-- those of a text, which begin with its 47th byte, and where their lines end
+abbrev pub wires_in : List ℕ → List Wire
+wires_in text = wires_of 17 (drop 46 text)
+
+abbrev pub wires_over : List ℕ → ℕ
+wires_over text = 46 + wires_end 17 (drop 46 text)
+
+-- as the code has them, one after the other: the wires that are left, and the text after them all
+unfoldable pub left : Wires → List Wire
+left s = wires_of s.most s.rest.now
+
+unfoldable pub beyond : Wires → List ℕ
+beyond s = drop (wires_end s.most s.rest.now) s.rest.now
+
+-- one is given, or none is left
+abbrev pub GivesWire : Wires → Option WireHere → Wires → Type 0
+GivesWire s None t = (left s ≡ []) × (left t ≡ []) × (t.rest.now ≡ beyond s)
+GivesWire s (Some w) t = (left s ≡ told w ∷ left t) × (beyond t ≡ beyond s)
 
 -- whether two names are the same
 abbrev pub same : List ℕ → List ℕ → Bool
@@ -94,12 +109,12 @@ unfoldable pub has_code : List Wire → ℕ → Bool
 has_code [] c = false
 has_code (w ∷ ws) c = pick (eqb w.code c) true (has_code ws c)
 
--- "the caller names the two wires": the code of the wire of this name, 0 where there is none
-unfoldable pub code_named : List ℕ → List Wire → ℕ
-code_named name [] = 0
-code_named name (w ∷ ws) = pick (same name w.name) w.code (code_named name ws)
+-- "the caller names the two wires": the code of the wire of this name
+unfoldable pub code_named : List ℕ → List Wire → Option ℕ
+code_named name [] = None
+code_named name (w ∷ ws) = pick (same name w.name) (Some w.code) (code_named name ws)
 
--- the codes as a table: 1 stands at each of them
-unfoldable pub filled : List Wire → List ℕ → List ℕ
+-- the codes as a table: each of them is known there
+unfoldable pub filled : List Wire → List Bool → List Bool
 filled [] table = table
-filled (w ∷ ws) table = filled ws (set table w.code 1)
+filled (w ∷ ws) table = filled ws (set table w.code true)

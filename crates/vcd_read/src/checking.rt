@@ -1,14 +1,13 @@
 // The lines after the header, all of them: whether they are in the subset, and their times.
-ghost use Rattle.std.specs.Prelude.{◌≤◌, ◌≡◌, length, drop};
-ghost use Rattle.vcd_read.specs.Scan.{times_said, in_table, checked_by, checked_of, unchecked};
+ghost use Rattle.std.specs.Prelude.{◌≡◌};
+ghost use Rattle.vcd_read.specs.Scan.{not_later, times_said, in_table, checked_by, checked_of, unchecked};
 
 use vcd_lines::{Reading, Said, say, start, take};
 
-// Whether there is a time, the last one, and whether one was "not later than the one before".
+// The last time, where there is one, and whether one was "not later than the one before".
 #[derive(Clone, Copy)]
 pub struct Times {
-    pub some: bool,
-    pub last: u32,
+    pub last: Option<u32>,
     pub late: bool,
 }
 
@@ -18,17 +17,21 @@ pub struct Checked {
     pub times: Times,
 }
 
+fn not_later(time: u32, last: Option<u32>) -> bool
+    ensures { result ≡ not_later time last }
+{
+    last.is_some_and(|last| time <= last)
+}
+
 fn add_said(times: Times, said: Said) -> Times
     ensures { result ≡ times_said times said }
 {
     match said {
-        Said::NoLine => times,
         Said::TimeLine(time) => Times {
-            some: true,
-            last: time,
-            late: times.late | (times.some & (time <= times.last)),
+            last: Some(time),
+            late: times.late | not_later(time, times.last),
         },
-        Said::ValueLine(code, level) => times,
+        Said::NoLine | Said::ValueLine(_, _) => times,
     }
 }
 
@@ -43,25 +46,19 @@ fn check_byte(checked: Checked, byte: u8, known: bool) -> Checked
     }
 }
 
-// The bytes from a place on; a code is known where the table has a 1.
-pub fn check_from(text: &[u8], at: usize, codes: &[u8; 256]) -> Checked
-    requires { at ≤ length text.now }
-    ensures { result ≡ checked_of (in_table codes.now) unchecked (drop at text.now) }
+// A code is known where the table has it.
+pub fn check(text: &[u8], codes: &[bool; 256]) -> Checked
+    ensures { result ≡ checked_of (in_table codes.now) unchecked text.now }
 {
     let mut checked = Checked {
         reading: start(),
         times: Times {
-            some: false,
-            last: 0,
+            last: None,
             late: false,
         },
     };
-    let mut i = at;
-    while i < text.len() {
-        let byte = text[i];
-        let known = codes[byte as usize] == 1;
-        checked = check_byte(checked, byte, known);
-        i += 1;
+    for byte in text {
+        checked = check_byte(checked, *byte, codes[*byte as usize]);
     }
     checked
 }

@@ -1,16 +1,15 @@
 // A whole text.
-ghost use Rattle.std.specs.Prelude.{◌≤◌, ◌≡◌, length};
-ghost use Rattle.vcd_read.specs.Scan.{no_header, header_read, refused_by, judged, scan_of};
+ghost use Rattle.std.specs.Prelude.{◌≤◌, ◌≡◌, length, IfSome};
+ghost use Rattle.vcd_read.specs.Scan.{few, header_read, refused_by, judged, scan_of};
 
-use crate::checking::{Checked, Times, check_from};
-use crate::named::{code_named, fill_codes, twice};
-use crate::wires::{starts_at, wires_at};
+use crate::checking::{Checked, Times, check};
+use crate::named::{code_named, codes_of, twice};
+use crate::wires::{after, wires_in};
 use vcd_lines::LINE_START;
 
 // A header in the subset: the codes of the two wires that are named, and where the lines after it begin.
 #[derive(Clone, Copy)]
 pub struct Header {
-    pub inside: bool,
     pub code_a: u8,
     pub code_b: u8,
     pub body: usize,
@@ -26,47 +25,35 @@ pub struct Scanned {
     pub times: Times,
 }
 
-fn no_header() -> Header
-    ensures { result ≡ no_header }
+fn is_few(count: usize) -> bool
+    ensures { result ≡ few count }
 {
-    Header {
-        inside: false,
-        code_a: 0,
-        code_b: 0,
-        body: 0,
-    }
+    (1..=16).contains(&count)
 }
 
 // "1 to 16 wires", "each once", and no "named wire missing".
-fn read_header(text: &[u8], name_a: &[u8], name_b: &[u8]) -> Header
-    ensures { (result ≡ header_read text.now name_a.now name_b.now)
-        × (result.body ≤ length text.now) }
+fn read_header(text: &[u8], name_a: &[u8], name_b: &[u8]) -> Option<Header>
+    ensures read { result ≡ header_read text.now name_a.now name_b.now }
+    ensures within { IfSome result (λ h. h.body ≤ length text.now) }
 {
-    if !starts_at(text, 0, b"$timescale 1 ns $end\n$scope module duart $end\n") {
-        return no_header();
+    if !text.starts_with(b"$timescale 1 ns $end\n$scope module duart $end\n") {
+        return None;
     }
-    let wires = wires_at(text, 46);
-    if !((0 < wires.count) & (wires.count < 17)) {
-        return no_header();
+    let wires = wires_in(text);
+    if !is_few(wires.count()) {
+        return None;
     }
-    if twice(text, 46) {
-        return no_header();
+    if twice(wires) {
+        return None;
     }
-    let end = wires.end;
-    if !starts_at(text, end, b"$upscope $end\n$enddefinitions $end\n") {
-        return no_header();
-    }
-    let code_a = code_named(text, 46, name_a);
-    let code_b = code_named(text, 46, name_b);
-    if (code_a == 0) | (code_b == 0) {
-        return no_header();
-    }
-    Header {
-        inside: true,
-        code_a: code_a,
-        code_b: code_b,
-        body: end + 35,
-    }
+    let body = after(wires).strip_prefix(b"$upscope $end\n$enddefinitions $end\n")?;
+    let code_a = code_named(wires, name_a)?;
+    let code_b = code_named(wires, name_b)?;
+    Some(Header {
+        code_a,
+        code_b,
+        body: text.len() - body.len(),
+    })
 }
 
 fn refuse(number: u8) -> Scanned
@@ -78,8 +65,7 @@ fn refuse(number: u8) -> Scanned
         code_b: 0,
         body: 0,
         times: Times {
-            some: false,
-            last: 0,
+            last: None,
             late: false,
         },
     }
@@ -110,12 +96,10 @@ pub fn scan(text: &[u8], name_a: &[u8], name_b: &[u8]) -> Scanned
     ensures { (result ≡ scan_of text.now name_a.now name_b.now)
         × (result.body ≤ length text.now) }
 {
-    let header = read_header(text, name_a, name_b);
-    if !header.inside {
+    let Some(header) = read_header(text, name_a, name_b) else {
         return refuse(10);
-    }
-    let mut codes = [0u8; 256];
-    fill_codes(text, 46, &mut codes);
-    let checked = check_from(text, header.body, &codes);
+    };
+    let codes = codes_of(wires_in(text));
+    let checked = check(&text[header.body..], &codes);
     judge(header, checked)
 }

@@ -1,131 +1,89 @@
-// The wires of a header, each looked at where it stands in the text.
-ghost use Rattle.std.specs.Prelude.{◌+◌, ◌≤◌, ◌≡◌, length, drop};
-ghost use Rattle.vcd_read.specs.Wires.{starts, visible, name_of, named, no_wire, wire_at, wires_at};
+// The wires of a header, one after the other as they stand in the text.
+ghost use Rattle.std.specs.Prelude.{◌≡◌, length, drop};
+ghost use Rattle.std.specs.Iterator.{item_count};
+ghost use Rattle.vcd_read.specs.Wires.{name_of, named, IsWireAt, left, beyond, GivesWire, wires_in, wires_over};
 
-// Whether these bytes stand at this place.
-pub fn starts_at(text: &[u8], at: usize, words: &[u8]) -> bool
-    requires { at ≤ length text.now }
-    ensures { result ≡ starts words.now (drop at text.now) }
-{
-    let mut i = 0usize;
-    while i < words.len() {
-        if text.len() - at <= i {
-            return false;
-        }
-        if words[i] != text[at + i] {
-            return false;
-        }
-        i += 1;
-    }
-    true
-}
-
-fn is_visible(byte: u8) -> bool
-    ensures { result ≡ visible byte }
-{
-    (32 < byte) & (byte < 127)
-}
-
-// How many visible characters stand at this place, at most 33.
-fn name_length(text: &[u8], at: usize) -> usize
-    requires { at ≤ length text.now }
-    ensures { result ≡ length (name_of 33 (drop at text.now)) }
-{
-    let mut n = 0usize;
-    while n < 33 {
-        if text.len() - at <= n {
-            return n;
-        }
-        if !is_visible(text[at + n]) {
-            return n;
-        }
-        n += 1;
-    }
-    n
-}
-
-// A wire's line, if one stands at a place: its code, how long its name is, which begins 14 bytes on, and where the line ends.
+// A wire, by its line.
 #[derive(Clone, Copy)]
-pub struct WireAt {
-    pub here: bool,
+pub struct WireHere<'a> {
     pub code: u8,
-    pub length: usize,
-    pub end: usize,
+    pub name: &'a [u8],
 }
 
-fn no_wire() -> WireAt
-    ensures { result ≡ no_wire }
+// How many visible characters a text begins with, at most 33.
+fn name_length(text: &[u8]) -> usize
+    ensures { result ≡ length (name_of 33 text.now) }
 {
-    WireAt {
-        here: false,
-        code: 0,
-        length: 0,
-        end: 0,
-    }
+    text.iter()
+        .take(33)
+        .take_while(|byte| byte.is_ascii_graphic())
+        .count()
 }
 
 fn is_named(length: usize) -> bool
     ensures { result ≡ named length }
 {
-    (0 < length) & (length < 33)
+    (1..=32).contains(&length)
 }
 
-pub fn wire_at(text: &[u8], at: usize) -> WireAt
-    requires { at ≤ length text.now }
-    ensures { result ≡ wire_at (drop at text.now) at }
+// The wire whose line a text begins with, if one does, and the text after the line.
+fn wire_at<'a>(text: &'a [u8]) -> Option<(WireHere<'a>, &'a [u8])>
+    ensures { IsWireAt text.now result }
 {
-    if !starts_at(text, at, b"$var wire 1 ") {
-        return no_wire();
+    let from_code = text.strip_prefix(b"$var wire 1 ")?;
+    let (code, after_code) = from_code.split_first()?;
+    if !code.is_ascii_graphic() {
+        return None;
     }
-    if text.len() - at < 14 {
-        return no_wire();
+    let from_name = after_code.strip_prefix(b" ")?;
+    let (name, after_name) = from_name.split_at(name_length(from_name));
+    if !is_named(name.len()) {
+        return None;
     }
-    let code = text[at + 12];
-    let blank = text[at + 13];
-    if !(is_visible(code) & (blank == 32)) {
-        return no_wire();
-    }
-    let length = name_length(text, at + 14);
-    if !is_named(length) {
-        return no_wire();
-    }
-    if !starts_at(text, at + 14 + length, b" $end\n") {
-        return no_wire();
-    }
-    WireAt {
-        here: true,
-        code: code,
-        length: length,
-        end: at + (length + 20),
-    }
+    let rest = after_name.strip_prefix(b" $end\n")?;
+    Some((WireHere { code: *code, name }, rest))
 }
 
-// How many wires stand at a place, 17 standing for that and more, and where their lines end.
+// The wires that a text begins with, at most so many.
 #[derive(Clone, Copy)]
-pub struct Wires {
-    pub count: usize,
-    pub end: usize,
+pub struct Wires<'a> {
+    pub most: usize,
+    pub rest: &'a [u8],
 }
 
-pub fn wires_at(text: &[u8], at: usize) -> Wires
-    requires { at ≤ length text.now }
-    ensures { (result ≡ wires_at (drop at text.now) at) × (result.end ≤ length text.now) }
-{
-    let mut count = 0usize;
-    let mut end = at;
-    while count < 17 {
-        let wire = wire_at(text, end);
-        if !wire.here {
-            return Wires {
-                count: count,
-                end: end,
-            };
+impl<'a> Iterator for Wires<'a> {
+    type Item = WireHere<'a>;
+
+    ghost next_gives = { GivesWire };
+
+    ghost remaining = { item_count left };
+
+    fn next(&mut self) -> Option<WireHere<'a>> {
+        if self.most == 0 {
+            return None;
         }
-        end = wire.end;
-        count += 1;
+        let (wire, rest) = wire_at(self.rest)?;
+        self.most -= 1;
+        self.rest = rest;
+        Some(wire)
     }
+}
+
+// The wires of a text: they begin with its 47th byte, and 17 stand for that and more.
+pub fn wires_in<'a>(text: &'a [u8]) -> Wires<'a>
+    ensures wires { left result ≡ wires_in text.now }
+    ensures after { beyond result ≡ drop (wires_over text.now) text.now }
+{
     Wires {
-        count: count,
-        end: end,
+        most: 17,
+        rest: &text[text.len().min(46)..],
     }
+}
+
+// The text after the wires.
+pub fn after<'a>(mut wires: Wires<'a>) -> &'a [u8]
+    ensures { result.now ≡ beyond wires.entry }
+{
+    while wires.next().is_some() {}
+    wires.rest
 }

@@ -8,13 +8,14 @@ use lib.Dec.{eqb, ltb}
 use lib.ListN.{length, drop, get_or, length-append}
 use lib.Seq.{drop-append_seam, drop-drop}
 use borrow.Author.Tests.{eq-eqb, ne_eqb, eqb-true, eqb-false, lt-ltb, ltb-true}
+use Rattle.std.specs.Prelude.{Option, None, Some}
 use Rattle.format.specs.Pick.{pick}
 use Rattle.text.specs.Bytes.{bytes_of}
 use Rattle.vcd_text.specs.Header.{Wire, line_of, wire_lines, header_of}
 use Rattle.vcd_read.specs.declared.scanning.Header.{Header}
-use Rattle.vcd_read.specs.Wires.{starts, is_wire, wires_end, same, clash_of, twice_of, has_code, code_named}
-use Rattle.vcd_read.specs.Scan.{open_words, close_words, wires_in, wires_over, no_header, header_read}
-use Rattle.vcd_subset.specs.Subset.{Visible, Apart, GoodWires, HasCode, Named}
+use Rattle.vcd_read.specs.Wires.{starts, is_wire, wires_end, wires_in, wires_over, same, clash_of, twice_of, has_code, code_named}
+use Rattle.vcd_read.specs.Scan.{open_words, close_words, named_header, header_read}
+use Rattle.vcd_subset.specs.Subset.{Apart, GoodWires, HasCode, Named}
 use Rattle.vcd_subset.proofs.Wires.{both, starts_own, starts_back, same_own, same_back, AllGood, wires_there, wires_back}
 
 -- ---- "each once" ----
@@ -97,28 +98,26 @@ apart_name w (v ∷ vs) name c zero (q, (n, h)) l e =
 apart_name w (v ∷ vs) name c (suc k) (q, (n, h)) l e = apart_name w vs name c k h (omega arith) e
 
 name_at : (ws : List Wire) (name : List ℕ) (c k : ℕ) → GoodWires ws → k < length ws
-    → get_or ws k (record { code = c; name = name }) ≡ record { code = c; name = name } → (code_named name ws ≡ c) × Visible c
+    → get_or ws k (record { code = c; name = name }) ≡ record { code = c; name = name } → code_named name ws ≡ Some c
 unfolding code_named GoodWires pick
 name_at [] name c k g l e = absurd (omega arith)
 name_at (w ∷ ws) name c zero (g, (a, gs)) l e =
     let n : w.name ≡ name = ap (λ (x : Wire). x.name) e in
     let q : w.code ≡ c = ap (λ (x : Wire). x.code) e in
-    (rw (n, same_own name) q, (rw q at g).code)
-name_at (w ∷ ws) name c (suc k) (g, (a, gs)) l e =
-    let (found, v) = name_at ws name c k gs (omega arith) e in
-    (rw (apart_name w ws name c k a (omega arith) e) found, v)
+    rw (n, q, same_own name)
+name_at (w ∷ ws) name c (suc k) (g, (a, gs)) l e = rw (apart_name w ws name c k a (omega arith) e) (name_at ws name c k gs (omega arith) e)
 
-pub name_is : (ws : List Wire) (name : List ℕ) (c : ℕ) → GoodWires ws → Named ws name c → (code_named name ws ≡ c) × Visible c
+pub name_is : (ws : List Wire) (name : List ℕ) (c : ℕ) → GoodWires ws → Named ws name c → code_named name ws ≡ Some c
 name_is ws name c g h = name_at ws name c h.place g h.within h.wire
 
-pub name_back : (ws : List Wire) (name : List ℕ) → (code_named name ws ≡ 0 → ⊥) → Named ws name (code_named name ws)
+pub name_back : (ws : List Wire) (name : List ℕ) (c : ℕ) → code_named name ws ≡ Some c → Named ws name c
 unfolding code_named pick
-name_back [] name h = absurd (h refl)
-name_back (w ∷ ws) name h = go (same name w.name) refl h (name_back ws name)
+name_back [] name c h = cc
+name_back (w ∷ ws) name c h = go (same name w.name) refl h (name_back ws name c)
   where
-    go : (t : Bool) → same name w.name ≡ t → (pick t w.code (code_named name ws) ≡ 0 → ⊥)
-        → ((code_named name ws ≡ 0 → ⊥) → Named ws name (code_named name ws)) → Named (w ∷ ws) name (pick t w.code (code_named name ws))
-    go true e n r = record { place = 0; within = omega arith; wire = rw (sym (same_back name w.name e)) }
+    go : (t : Bool) → same name w.name ≡ t → pick t (Some w.code) (code_named name ws) ≡ Some c
+        → (code_named name ws ≡ Some c → Named ws name c) → Named (w ∷ ws) name c
+    go true e n r = let q : w.code ≡ c = cc in record { place = 0; within = omega arith; wire = rw (sym (same_back name w.name e), q) }
     go false e n r = let q = r n in record { place = suc q.place; within = (let l = q.within in omega arith); wire = q.wire }
 
 -- ---- the header, piece by piece ----
@@ -168,9 +167,7 @@ module _ (ws : List Wire) (rest : List ℕ) where
         rw wires-over
         (sym (drop-drop (length (wire_lines ws)) 46 text) ∙ rw from-wires (drop-append_seam (wire_lines ws) (close_words ++ rest)))
 
-    pub header-there : (a b : List ℕ) → header_read text a b
-        ≡ pick (eqb (code_named a ws) 0 || eqb (code_named b ws) 0) no_header
-        (record { inside = true; code_a = code_named a ws; code_b = code_named b ws; body = length (header_of ws) })
+    pub header-there : (a b : List ℕ) → header_read text a b ≡ named_header (code_named a ws) (code_named b ws) (length (header_of ws))
     unfolding header_read pick
     header-there a b =
         let begins : starts open_words text ≡ true = rw (header_is ws rest) (starts_own open_words (wire_lines ws ++ (close_words ++ rest))) in
@@ -180,45 +177,51 @@ module _ (ws : List Wire) (rest : List ℕ) where
 
 -- ---- what is read as a header ----
 
-pub record Found (text a b : List ℕ) : Type 0 where
+pub record Found (text a b : List ℕ) (h : Header) : Type 0 where
   pub some : 1 ≤ length (wires_in text)
   pub few : length (wires_in text) ≤ 16
   pub wires : GoodWires (wires_in text)
-  pub first : Named (wires_in text) a (code_named a (wires_in text))
-  pub second : Named (wires_in text) b (code_named b (wires_in text))
-  pub written : text ≡ header_of (wires_in text) ++ drop (header_read text a b).body text
+  pub first : Named (wires_in text) a h.code_a
+  pub second : Named (wires_in text) b h.code_b
+  pub written : text ≡ header_of (wires_in text) ++ drop h.body text
 
-then_in : (t : Bool) (x : Header) → (pick t x no_header).inside ≡ true → (t ≡ true) × ((pick t x no_header ≡ x) × (x.inside ≡ true))
+then_in : (t : Bool) (x : Option Header) (h : Header) → pick t x None ≡ Some h → (t ≡ true) × (x ≡ Some h)
 unfolding pick
-then_in true x h = (refl, (refl, h))
-then_in false x h = absurd (false≢true h)
+then_in true x h e = (refl, e)
+then_in false x h e = cc
 
-else_in : (t : Bool) (x : Header) → (pick t no_header x).inside ≡ true → (t ≡ false) × ((pick t no_header x ≡ x) × (x.inside ≡ true))
+else_in : (t : Bool) (x : Option Header) (h : Header) → pick t None x ≡ Some h → (t ≡ false) × (x ≡ Some h)
 unfolding pick
-else_in false x h = (refl, (refl, h))
-else_in true x h = absurd (false≢true h)
+else_in false x h e = (refl, e)
+else_in true x h e = cc
 
-pub header_back : (text a b : List ℕ) → (header_read text a b).inside ≡ true → Found text a b
+named_in : (a b : Option ℕ) (n : ℕ) (h : Header) → named_header a b n ≡ Some h → (a ≡ Some h.code_a) × (b ≡ Some h.code_b) × (h.body ≡ n)
+unfolding named_header
+named_in None b n h e = cc
+named_in (Some a) None n h e = cc
+named_in (Some a) (Some b) n h e =
+    let r : record { code_a = a; code_b = b; body = n } ≡ h = cc in
+    (ap (λ (x : Header). Some x.code_a) r, ap (λ (x : Header). Some x.code_b) r, sym (ap (λ (x : Header). x.body) r))
+
+pub header_back : (text a b : List ℕ) (h : Header) → header_read text a b ≡ Some h → Found text a b h
 unfolding header_read line_of bytes_of
-header_back text a b h =
+header_back text a b h e =
     let ws = wires_in text in
-    let (begins, (e1, h1)) = then_in (starts open_words text) _ h in
-    let (size, (e2, h2)) = then_in (ltb 0 (length ws) && ltb (length ws) 17) _ h1 in
-    let (once, (e3, h3)) = else_in (twice_of ws) _ h2 in
-    let (ends, (e4, h4)) = then_in (starts close_words (drop (wires_over text) text)) _ h3 in
-    let (named, (e5, h5)) = else_in (eqb (code_named a ws) 0 || eqb (code_named b ws) 0) _ h4 in
-    let (a-named, b-named) = neither (eqb (code_named a ws) 0) (eqb (code_named b ws) 0) named in
+    let (begins, e1) = then_in (starts open_words text) _ h e in
+    let (size, e2) = then_in (ltb 0 (length ws) && ltb (length ws) 17) _ h e1 in
+    let (once, e3) = else_in (twice_of ws) _ h e2 in
+    let (ends, e4) = then_in (starts close_words (drop (wires_over text) text)) _ h e3 in
+    let (a-named, b-named, body) = named_in (code_named a ws) (code_named b ws) (wires_over text + 35) h e4 in
     let (some, few) = both (ltb 0 (length ws)) (ltb (length ws) 17) size in
     let l = ltb-true 0 (length ws) some in
     let m = ltb-true (length ws) 17 few in
     let (lines, good) = wires_back 17 (drop 46 text) in
-    let body : (header_read text a b).body ≡ wires_over text + 35 = ap (λ (x : Header). x.body) (e1 ∙ e2 ∙ e3 ∙ e4 ∙ e5) in
     record {
       some = omega arith;
       few = omega arith;
       wires = once_back ws once good;
-      first = name_back ws a (eqb-false (code_named a ws) 0 a-named);
-      second = name_back ws b (eqb-false (code_named b ws) 0 b-named);
+      first = name_back ws a h.code_a a-named;
+      second = name_back ws b h.code_b b-named;
       written = rw body
           (starts_back open_words text begins
           ∙ ap (λ (l : List ℕ). open_words ++ l)

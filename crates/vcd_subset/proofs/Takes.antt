@@ -1,12 +1,13 @@
 -- Our reader takes the texts of the subset, by their wires and lines, and no others. Assumes nothing.
 use Prim.Native.Nat.{ℕ, suc, ◌≤◌}
 use mathlib.Core.Path.{◌≡◌, refl, sym, ◌∙◌, ap}
-use mathlib.Core.Bool.{Bool, true, false, ◌&&◌, ◌||◌, true≢false}
+use mathlib.Core.Bool.{Bool, true, false, ◌||◌, true≢false}
 use mathlib.Core.List.{List, [], ◌∷◌, ◌++◌}
 use native.Mathlib.Omega.{arith}
-use lib.Dec.{eqb, leb}
+use lib.Dec.{eqb}
 use lib.ListN.{length, drop}
-use borrow.Author.Tests.{ne_eqb, eqb-true, lt-leb, leb-false}
+use borrow.Author.Tests.{eqb-true, lt-leb, leb-false}
+use Rattle.std.specs.Prelude.{Option, None, Some}
 use Rattle.format.specs.Pick.{pick}
 use Rattle.vcd_text.specs.Header.{Wire, header_of}
 use Rattle.vcd_text.specs.Lines.{Line, lines_text, times_of, RisesFrom}
@@ -15,9 +16,11 @@ use Rattle.vcd_read.specs.declared.checking.Checked.{Checked}
 use Rattle.vcd_read.specs.declared.checking.Times.{Times}
 use Rattle.vcd_read.specs.declared.scanning.Scanned.{Scanned}
 use Rattle.vcd_lines.specs.Body.{started, read_all, lines_read}
-use Rattle.vcd_read.specs.Wires.{has_code, code_named}
-use Rattle.vcd_read.specs.Scan.{wires_in, header_read, body_checked, no_times, time_added, times_from, unchecked, refused_by, judged, scan_of}
+use Rattle.vcd_read.specs.declared.scanning.Header.{Header}
+use Rattle.vcd_read.specs.Wires.{wires_in, has_code}
+use Rattle.vcd_read.specs.Scan.{header_read, body_checked, no_times, not_later, time_added, times_from, unchecked, refused_by, judged, scan_with, scan_of}
 use Rattle.vcd_lines.proofs.Laws.Reads.{readable, lines-read}
+use Rattle.vcd_read.proofs.Laws.Header.{both_named}
 use Rattle.vcd_read.proofs.Laws.Checks.{checked_reads}
 use Rattle.vcd_subset.specs.Subset.{Named, GoodLines, Says}
 use Rattle.vcd_subset.proofs.Header.{code_is, code_back, name_is, wires-in, header-left, header-there, header_back}
@@ -40,18 +43,19 @@ lines_back ws timed (Value c v ∷ ls) (t, (h, g)) = (t, (code_back ws c h, line
 -- ---- the times ----
 
 -- times that rise come in time, and times that come in time rise
-abbrev least : Times → ℕ
-least x = pick x.some (suc x.last) 0
+unfoldable least : Option ℕ → ℕ
+least None = 0
+least (Some last) = suc last
 
-in_time : (x : Times) (ls : List Line) → x.late ≡ false → RisesFrom (least x) (times_of ls) → (times_from x ls).late ≡ false
-unfolding RisesFrom times_of times_from pick
+in_time : (x : Times) (ls : List Line) → x.late ≡ false → RisesFrom (least x.last) (times_of ls) → (times_from x ls).late ≡ false
+unfolding RisesFrom times_of times_from least
 in_time x [] e r = e
 in_time x (Value c v ∷ ls) e r = in_time x ls e r
-in_time x (Time t ∷ ls) e (l, r) = in_time (time_added x t) ls (ok x.some e l) r
+in_time x (Time t ∷ ls) e (l, r) = in_time (time_added x t) ls (ok x.last e l) r
   where
-    ok : (b : Bool) → x.late ≡ false → pick b (suc x.last) 0 ≤ t → (x.late || (b && leb t x.last)) ≡ false
-    ok true e l = rw (e, lt-leb t x.last l)
-    ok false e l = rw e
+    ok : (o : Option ℕ) → x.late ≡ false → least o ≤ t → (x.late || not_later t o) ≡ false
+    ok (Some last) e l = rw (e, lt-leb t last l)
+    ok None e l = rw e
 
 stays_late : (x : Times) (ls : List Line) → x.late ≡ true → (times_from x ls).late ≡ true
 unfolding times_from
@@ -59,27 +63,27 @@ stays_late x [] e = e
 stays_late x (Value c v ∷ ls) e = stays_late x ls e
 stays_late x (Time t ∷ ls) e = stays_late (time_added x t) ls (rw e)
 
-rise_back : (x : Times) (ls : List Line) → (times_from x ls).late ≡ false → RisesFrom (least x) (times_of ls)
-unfolding RisesFrom times_of times_from pick
+rise_back : (x : Times) (ls : List Line) → (times_from x ls).late ≡ false → RisesFrom (least x.last) (times_of ls)
+unfolding RisesFrom times_of times_from least
 rise_back x [] e = tt
 rise_back x (Value c v ∷ ls) e = rise_back x ls e
 rise_back x (Time t ∷ ls) e = (go (time_added x t).late refl, rise_back (time_added x t) ls e)
   where
-    later : (some late : Bool) → (late || (some && leb t x.last)) ≡ false → pick some (suc x.last) 0 ≤ t
-    later true false h = leb-false t x.last h
-    later false late h = omega arith
-    later true true h = absurd (true≢false h)
+    later : (o : Option ℕ) (late : Bool) → (late || not_later t o) ≡ false → least o ≤ t
+    later (Some last) false h = leb-false t last h
+    later None late h = omega arith
+    later (Some last) true h = absurd (true≢false h)
 
-    go : (late : Bool) → (time_added x t).late ≡ late → least x ≤ t
+    go : (late : Bool) → (time_added x t).late ≡ late → least x.last ≤ t
     go true h = absurd (true≢false (sym (stays_late (time_added x t) ls h) ∙ e))
-    go false h = later x.some x.late h
+    go false h = later x.last x.late h
 
 pub rises_in_time : (ls : List Line) → RisesFrom 0 (times_of ls) → (times_from no_times ls).late ≡ false
-unfolding pick
+unfolding least
 rises_in_time ls r = in_time no_times ls refl r
 
 pub in_time_rises : (ls : List Line) → (times_from no_times ls).late ≡ false → RisesFrom 0 (times_of ls)
-unfolding pick
+unfolding least
 in_time_rises ls e = rise_back no_times ls e
 
 -- ---- the whole ----
@@ -89,13 +93,11 @@ module _ (text a b : List ℕ) (ws : List Wire) (ls : List Line) (says : Says te
   pub taken : (ca cb : ℕ) → Named ws a ca → Named ws b cb
       → scan_of text a b ≡ pick (times_from no_times ls).late (refused_by 11)
       (record { number = 0; code_a = ca; code_b = cb; body = length (header_of ws); times = times_from no_times ls })
-  unfolding scan_of judged pick
+  unfolding scan_of scan_with judged pick
   taken ca cb na nb =
-      let (ea, (la, ma)) = name_is ws a ca says.wires na in
-      let (eb, (lb, mb)) = name_is ws b cb says.wires nb in
-      let head : header_read text a b ≡ record { inside = true; code_a = ca; code_b = cb; body = length (header_of ws) } =
+      let head : header_read text a b ≡ Some (record { code_a = ca; code_b = cb; body = length (header_of ws) }) =
       rw says.written (header-there ws (lines_text ls) says.wires says.some says.few a b
-      ∙ rw (ea, eb, ne_eqb ca 0 (λ (z : ca ≡ 0). omega arith), ne_eqb cb 0 (λ (z : cb ≡ 0). omega arith))) in
+      ∙ rw (name_is ws a ca says.wires na, name_is ws b cb says.wires nb) (both_named ca cb (length (header_of ws)))) in
       let wires : wires_in text ≡ ws = rw says.written (wires-in ws (lines_text ls) says.wires says.some says.few) in
       let left : drop (length (header_of ws)) text ≡ lines_text ls = rw says.written (header-left ws (lines_text ls)) in
       let (said, place) = lines-read (has_code ws) ls started (lines_are ws false ls says.lines) in
@@ -104,18 +106,18 @@ module _ (text a b : List ℕ) (ws : List Wire) (ls : List Line) (says : Says te
 -- ---- what is taken ----
 
 -- the wires and lines that a text is read as
-record Read (text a b : List ℕ) : Type 0 where
+record Read (text a b : List ℕ) (h : Header) : Type 0 where
   wires : List Wire
   lines : List Line
   says : Says text wires lines
-  first : Named wires a (code_named a wires)
-  second : Named wires b (code_named b wires)
+  first : Named wires a h.code_a
+  second : Named wires b h.code_b
 
-read_back : (text a b : List ℕ) → (header_read text a b).inside ≡ true → (body_checked text (header_read text a b).body).reading.place ≡ 0 → Read text a b
-read_back text a b h e =
-    let found = header_back text a b h in
+read_back : (text a b : List ℕ) (h : Header) → header_read text a b ≡ Some h → (body_checked text h.body).reading.place ≡ 0 → Read text a b h
+read_back text a b h i e =
+    let found = header_back text a b h i in
     let ws = wires_in text in
-    let bs = drop (header_read text a b).body text in
+    let bs = drop h.body text in
     let place : (read_all (has_code ws) started bs).place ≡ 0 = ap (λ (x : Checked). x.reading.place) (sym (checked_reads (has_code ws) unchecked bs)) ∙ e in
     let (text_is, good) = body_back (has_code ws) bs started refl place in
     record {
@@ -141,13 +143,16 @@ module _ (text a b : List ℕ) where
   Inside A = (ws : List Wire) (ls : List Line) (ca cb : ℕ) → Says text ws ls → Named ws a ca → Named ws b cb → A
 
   either_way : {A : Type 0} → Inside A → (scan_of text a b ≡ refused_by 10 → A) → A
-  unfolding scan_of judged pick
-  either_way {A} read other = go (header_read text a b).inside refl (eqb (body_checked text (header_read text a b).body).reading.place 0) refl
+  unfolding scan_of scan_with judged pick
+  either_way {A} read other = go (header_read text a b) refl
     where
-      go : (t : Bool) → (header_read text a b).inside ≡ t → (p : Bool) → eqb (body_checked text (header_read text a b).body).reading.place 0 ≡ p → A
-      go false e p q = other (rw e)
-      go true e false q = other (rw (e, q))
-      go true e true q = let r = read_back text a b e (eqb-true _ 0 q) in read r.wires r.lines _ _ r.says r.first r.second
+      placed : (h : Header) → header_read text a b ≡ Some h → (p : Bool) → eqb (body_checked text h.body).reading.place 0 ≡ p → A
+      placed h e false q = other (rw (e, q))
+      placed h e true q = let r = read_back text a b h e (eqb-true _ 0 q) in read r.wires r.lines _ _ r.says r.first r.second
+
+      go : (o : Option Header) → header_read text a b ≡ o → A
+      go None e = other (rw e)
+      go (Some h) e = placed h e (eqb (body_checked text h.body).reading.place 0) refl
 
   not-ten : (t : Bool) (s : Scanned) → s.number ≡ 0 → pick t (refused_by 11) s ≡ refused_by 10 → ⊥
   unfolding pick

@@ -1,14 +1,18 @@
--- What stands at a place of a text, byte by byte. Assumes nothing.
-use Prim.Native.Nat.{ℕ, zero, suc, ◌+◌, ◌-◌, ◌≤◌, ◌<◌}
+-- What stands at the beginning of a text, as the definitions and as the library say it. Assumes nothing.
+use Prim.Native.Nat.{ℕ, zero, suc, ◌+◌, ◌≤◌, ◌<◌}
 use mathlib.Core.Path.{◌≡◌, refl, sym, ◌∙◌, ap}
-use mathlib.Core.Bool.{Bool, true, false, ◌&&◌, false≢true}
+use mathlib.Core.Bool.{Bool, true, false, ◌&&◌, cond, false≢true}
 use mathlib.Core.List.{List, [], ◌∷◌}
 use native.Mathlib.Numerals.{add-one}
 use native.Mathlib.Omega.{arith}
-use lib.Dec.{eqb}
-use lib.ListN.{length, take, drop, get_or, drop_of_length-le}
+use lib.Dec.{eqb, eqb-zero-suc, eqb-suc-zero, eqb-suc-suc}
+use lib.ListN.{length, take, drop, get_or}
 use lib.Seq.{drop-cons}
-use borrow.Author.Tests.{eq-eqb, ne_eqb, eqb-true}
+use borrow.Author.Tests.{eq-eqb, ne_eqb, eqb-true, eqb-false}
+use Rattle.std.proofs.lemmas.Bool.Decides.{nat_tests}
+use Rattle.std.specs.Char.{is_ascii_graphic}
+use Rattle.std.specs.Cmp.Lexicographic.{pointwise}
+use Rattle.std.specs.List.{prefix_len}
 use Rattle.format.specs.Pick.{pick}
 use Rattle.vcd_read.specs.Wires.{starts, visible, name_of, same}
 
@@ -16,42 +20,36 @@ use Rattle.vcd_read.specs.Wires.{starts, visible, name_of, same}
 pub from : (l : List ℕ) (i : ℕ) → i < length l → drop i l ≡ get_or l i 0 ∷ drop (i + 1) l
 from l i h = rw add-one (drop-cons l i 0 h)
 
--- ---- bytes that stand at a place ----
+-- ---- bytes that stand there ----
 
-starts_none : (x : ℕ) (ws : List ℕ) → starts (x ∷ ws) [] ≡ false
+both_pick : (t r : Bool) → (t && r) ≡ pick t r false
+unfolding pick
+both_pick true r = refl
+both_pick false r = refl
+
+eqb_turned : (x y : ℕ) → eqb x y ≡ eqb y x
+eqb_turned x y = go (eqb y x) refl
+  where
+    go : (t : Bool) → eqb y x ≡ t → eqb x y ≡ t
+    go true e = eq-eqb x y (sym (eqb-true y x e))
+    go false e = ne_eqb x y (λ (h : x ≡ y). eqb-false y x e (sym h))
+
+-- `starts_with`
+pub starts_is : (ws text : List ℕ) → pointwise eqb ws (take (length ws) text) ≡ starts ws text
 unfolding starts
-starts_none x ws = refl
+starts_is [] text = refl
+starts_is (w ∷ ws) [] = refl
+starts_is (w ∷ ws) (b ∷ bs) = ap (λ (r : Bool). eqb w b && r) (starts_is ws bs) ∙ both_pick (eqb w b) (starts ws bs)
 
-starts_cons : (x b : ℕ) (ws bs : List ℕ) → starts (x ∷ ws) (b ∷ bs) ≡ pick (eqb x b) (starts ws bs) false
+-- `strip_prefix`
+pub stripped_is : (ws text : List ℕ) → pointwise eqb (take (length ws) text) ws ≡ starts ws text
 unfolding starts
-starts_cons x b ws bs = refl
-
-starts_nil : (text : List ℕ) → starts [] text ≡ true
-unfolding starts
-starts_nil text = refl
-
-module _ (text words : List ℕ) (at i : ℕ) where
-  -- the text is over
-  pub starts-over : i < length words → length text ≤ at + i → starts (drop i words) (drop (at + i) text) ≡ false
-  starts-over h l = rw (from words i h, drop_of_length-le text l) (starts_none (get_or words i 0) (drop (i + 1) words))
-
-  -- another byte stands there
-  pub starts_other : i < length words → at + i < length text → (get_or words i 0 ≡ get_or text (at + i) 0 → ⊥)
-      → starts (drop i words) (drop (at + i) text) ≡ false
-  unfolding pick
-  starts_other h l n = rw (from words i h, from text (at + i) l, starts_cons (get_or words i 0) (get_or text (at + i) 0) (drop (i + 1) words) (drop (at + i + 1) text), ne_eqb _ _ n)
-
-  -- this byte does
-  pub starts-on : i < length words → at + i < length text → get_or words i 0 ≡ get_or text (at + i) 0
-      → starts (drop i words) (drop (at + i) text) ≡ starts (drop (i + 1) words) (drop (at + (i + 1)) text)
-  unfolding pick
-  starts-on h l e =
-      let s : at + i + 1 ≡ at + (i + 1) = omega arith in
-      rw (from words i h, from text (at + i) l, starts_cons (get_or words i 0) (get_or text (at + i) 0) (drop (i + 1) words) (drop (at + i + 1) text), eq-eqb _ _ e, s)
-
-  -- no byte is left to ask for
-  pub starts-all : length words ≤ i → starts (drop i words) (drop (at + i) text) ≡ true
-  starts-all h = rw (drop_of_length-le words h) (starts_nil (drop (at + i) text))
+stripped_is [] text = refl
+stripped_is (w ∷ ws) [] = refl
+stripped_is (w ∷ ws) (b ∷ bs) =
+    ap (λ (r : Bool). r && pointwise eqb (take (length ws) bs) ws) (eqb_turned b w)
+    ∙ ap (λ (r : Bool). eqb w b && r) (stripped_is ws bs)
+    ∙ both_pick (eqb w b) (starts ws bs)
 
 taken : (t r : Bool) → pick t r false ≡ true → r ≡ true
 unfolding pick
@@ -65,54 +63,35 @@ starts_within [] text h = omega arith
 starts_within (w ∷ ws) [] h = absurd (false≢true h)
 starts_within (w ∷ ws) (b ∷ bs) h = let l = starts_within ws bs (taken (eqb w b) (starts ws bs) h) in omega arith
 
+-- a space
+pub blank_is : (text : List ℕ) → starts (32 ∷ []) text ≡ eqb (get_or text 0 0) 32
+unfolding starts
+blank_is [] = refl
+blank_is (b ∷ bs) = sym (both_pick (eqb 32 b) true) ∙ go (eqb 32 b) ∙ eqb_turned 32 b
+  where
+    go : (t : Bool) → (t && true) ≡ t
+    go true = refl
+    go false = refl
+
 -- ---- the characters of a name ----
 
-name_cons : (n b : ℕ) (bs : List ℕ) → name_of (suc n) (b ∷ bs) ≡ pick (visible b) (b ∷ name_of n bs) []
-unfolding name_of
-name_cons n b bs = refl
+-- `is_ascii_graphic`
+pub visible_is : (b : ℕ) → is_ascii_graphic b ≡ visible b
+visible_is b = grind (arith, nat_tests)
 
-name_nil : (n : ℕ) → name_of n [] ≡ []
-unfolding name_of
-name_nil zero = refl
-name_nil (suc n) = refl
+-- `take_while`
+pub name_is : (n : ℕ) (text : List ℕ) → take (prefix_len is_ascii_graphic (take n text)) (take n text) ≡ name_of n text
+unfolding name_of pick
+name_is zero text = refl
+name_is (suc n) [] = refl
+name_is (suc n) (b ∷ bs) = rw (visible_is b) (go (visible b) (name_is n bs))
+  where
+    go : (t : Bool) → take (prefix_len is_ascii_graphic (take n bs)) (take n bs) ≡ name_of n bs
+        → take (cond t (1 + prefix_len is_ascii_graphic (take n bs)) 0) (b ∷ take n bs) ≡ pick t (b ∷ name_of n bs) []
+    go true h = let e : 1 + prefix_len is_ascii_graphic (take n bs) ≡ suc (prefix_len is_ascii_graphic (take n bs)) = omega arith in rw e (ap (λ (r : List ℕ). b ∷ r) h)
+    go false h = refl
 
-name_none : (text : List ℕ) → name_of 0 text ≡ []
-unfolding name_of
-name_none text = refl
-
-module _ (text : List ℕ) (at n : ℕ) where
-  pub name-over : length text ≤ at + n → length (name_of (33 - n) (drop (at + n) text)) ≡ 0
-  name-over l = rw (drop_of_length-le text l, name_nil (33 - n))
-
-  pub name-ends : n < 33 → at + n < length text → visible (get_or text (at + n) 0) ≡ false
-      → length (name_of (33 - n) (drop (at + n) text)) ≡ 0
-  unfolding pick
-  name-ends h l v =
-      let s : 33 - n ≡ suc (33 - (n + 1)) = omega arith in
-      rw (s, from text (at + n) l, name_cons (33 - (n + 1)) (get_or text (at + n) 0) (drop (at + n + 1) text), v)
-
-  pub name-on : n < 33 → at + n < length text → visible (get_or text (at + n) 0) ≡ true
-      → length (name_of (33 - n) (drop (at + n) text)) ≡ suc (length (name_of (33 - (n + 1)) (drop (at + (n + 1)) text)))
-  unfolding pick
-  name-on h l v =
-      let s : 33 - n ≡ suc (33 - (n + 1)) = omega arith in
-      let p : at + n + 1 ≡ at + (n + 1) = omega arith in
-      rw (s, from text (at + n) l, name_cons (33 - (n + 1)) (get_or text (at + n) 0) (drop (at + n + 1) text), v, p)
-
-  pub name-full : 33 ≤ n → length (name_of (33 - n) (drop (at + n) text)) ≡ 0
-  name-full h =
-      let s : 33 - n ≡ 0 = omega arith in
-      rw (s, name_none (drop (at + n) text))
-
--- ---- a name where it stands ----
-
--- what stands at a place is asked of as many bytes as there are
-pub starts_take : (a l : List ℕ) → starts a (take (length a) l) ≡ starts a l
-unfolding starts
-starts_take [] l = refl
-starts_take (x ∷ a) [] = refl
-starts_take (x ∷ a) (b ∷ l) = rw (starts_take a l)
-
+-- a name is what the text begins with, and no longer than it
 pub name_take : (n : ℕ) (l : List ℕ) → name_of n l ≡ take (length (name_of n l)) l
 unfolding name_of pick
 name_take zero l = refl
@@ -124,12 +103,28 @@ name_take (suc n) (b ∷ l) = go (visible b) (name_take n l)
     go true h = ap (λ (r : List ℕ). b ∷ r) h
     go false h = refl
 
--- so two names are compared where the one stands
-pub same_is : (a l : List ℕ) (n : ℕ) → (eqb (length a) (length (name_of n l)) && starts a l) ≡ same a (name_of n l)
-same_is a l n = go (eqb (length a) (length (name_of n l))) refl
+pub name_within : (n : ℕ) (text : List ℕ) → length (name_of n text) ≤ length text
+unfolding name_of pick
+name_within zero text = omega arith
+name_within (suc n) [] = omega arith
+name_within (suc n) (b ∷ bs) = go (visible b) (name_within n bs)
   where
-    go : (t : Bool) → eqb (length a) (length (name_of n l)) ≡ t → (t && starts a l) ≡ (t && starts a (name_of n l))
-    go true h =
-        let e : length a ≡ length (name_of n l) = eqb-true (length a) (length (name_of n l)) h in
-        sym (starts_take a l) ∙ rw e (ap (starts a) (sym (name_take n l)))
-    go false h = refl
+    go : (t : Bool) → length (name_of n bs) ≤ length bs → length (pick t (b ∷ name_of n bs) []) ≤ suc (length bs)
+    go true h = omega arith
+    go false h = omega arith
+
+-- two names are the same as `==` has it
+pub same_is : (a b : List ℕ) → pointwise eqb b a ≡ same a b
+unfolding starts pick
+same_is [] [] = refl
+same_is [] (y ∷ b) = rw eqb-zero-suc
+same_is (x ∷ a) [] = rw eqb-suc-zero
+same_is (x ∷ a) (y ∷ b) =
+    ap (λ (r : Bool). r && pointwise eqb b a) (eqb_turned y x)
+    ∙ ap (λ (r : Bool). eqb x y && r) (same_is a b)
+    ∙ rw (eqb-suc-suc (length a) (length b)) (go (eqb x y) (eqb (length a) (length b)) (starts a b))
+  where
+    go : (t l r : Bool) → (t && (l && r)) ≡ (l && pick t r false)
+    go true l r = refl
+    go false true r = refl
+    go false false r = refl

@@ -35,34 +35,34 @@ unfolding pick
 either true x y = or-true x
 either false x y = refl
 
-set_found : (t : List ℕ) (c b : ℕ) → c < length t → in_table (set t c 1) b ≡ pick (eqb c b) true (in_table t b)
+set_found : (t : List Bool) (c b : ℕ) → c < length t → in_table (set t c true) b ≡ pick (eqb c b) true (in_table t b)
 unfolding pick
 set_found t c b h = go (eqb c b) refl
   where
-    go : (e : Bool) → eqb c b ≡ e → in_table (set t c 1) b ≡ pick e true (in_table t b)
-    go true e = let q = eqb-true c b e in rw (← q, get_or-set_same t c 1 0 h)
-    go false e = let q = eqb-false c b e in rw (get_or-set_other t c b 1 0 (λ z. q (sym z)))
+    go : (e : Bool) → eqb c b ≡ e → in_table (set t c true) b ≡ pick e true (in_table t b)
+    go true e = let q = eqb-true c b e in rw (← q, get_or-set_same t c true false h)
+    go false e = let q = eqb-false c b e in rw (get_or-set_other t c b true false (λ z. q (sym z)))
 
-filled_found : (ws : List Wire) (t : List ℕ) (b : ℕ) → Small ws → length t ≡ 256 → in_table (filled ws t) b ≡ (has_code ws b || in_table t b)
+filled_found : (ws : List Wire) (t : List Bool) (b : ℕ) → Small ws → length t ≡ 256 → in_table (filled ws t) b ≡ (has_code ws b || in_table t b)
 unfolding filled has_code Small
 filled_found [] t b h l = refl
 filled_found (w ∷ ws) t b h l =
-    filled_found ws (set t w.code 1) b h.1 (length-set t w.code 1 ∙ l)
+    filled_found ws (set t w.code true) b h.1 (length-set t w.code true ∙ l)
     ∙ rw (set_found t w.code b (omega (arith, h.0))) (either (eqb w.code b) (has_code ws b) (in_table t b))
 
-empty_table : (b : ℕ) → in_table (replicate 256 0) b ≡ false
+empty_table : (b : ℕ) → in_table (replicate 256 false) b ≡ false
 empty_table b = go (ltb b 256) refl
   where
-    go : (t : Bool) → ltb b 256 ≡ t → in_table (replicate 256 0) b ≡ false
-    go true e = rw (get_or-replicate {A = ℕ} 256 b 0 0 (ltb-true b 256 e))
+    go : (t : Bool) → ltb b 256 ≡ t → in_table (replicate 256 false) b ≡ false
+    go true e = rw (get_or-replicate {A = Bool} 256 b false false (ltb-true b 256 e))
     go false e =
         let far = ltb-false b 256 e in
-        let long = length-replicate {A = ℕ} 256 0 in
-        rw (get_or-eq_default {A = ℕ} (replicate 256 0) 0 {n = b} (omega arith))
+        let long = length-replicate {A = Bool} 256 false in
+        rw (get_or-eq_default {A = Bool} (replicate 256 false) false {n = b} (omega arith))
 
-pub table_is : (n : ℕ) (text : List ℕ) (b : ℕ) → in_table (filled (wires_of n text) (replicate 256 0)) b ≡ has_code (wires_of n text) b
+pub table_is : (n : ℕ) (text : List ℕ) (b : ℕ) → in_table (filled (wires_of n text) (replicate 256 false)) b ≡ has_code (wires_of n text) b
 table_is n text b =
-    filled_found (wires_of n text) (replicate 256 0) b (small_wires n text) (length-replicate {A = ℕ} 256 0)
+    filled_found (wires_of n text) (replicate 256 false) b (small_wires n text) (length-replicate {A = Bool} 256 false)
     ∙ rw (empty_table b) (or-false (has_code (wires_of n text) b))
 
 -- two ways to know a code that agree check alike

@@ -1,98 +1,69 @@
--- The wire at a place, by the test that decides. Assumes nothing.
-use Prim.Native.Nat.{ℕ, zero, suc, ◌+◌, ◌-◌, ◌≤◌, ◌<◌}
+-- The wire that a text begins with, by the test that decides; and the wires one after the other. Assumes nothing.
+use Prim.Native.Nat.{ℕ, zero, suc, ◌+◌, ◌≤◌, ◌<◌, min}
 use mathlib.Core.Path.{◌≡◌, refl, sym, ◌∙◌, ap}
-use mathlib.Core.Bool.{Bool, true, false, ◌&&◌, ◌||◌, false≢true, and-eq-true_iff}
+use mathlib.Core.Bool.{Bool, true, false, ◌&&◌, false≢true, and-eq-true_iff}
 use mathlib.Core.List.{List, [], ◌∷◌}
 use native.Mathlib.Omega.{arith}
-use lib.Dec.{eqb, ltb}
-use lib.ListN.{length, take, drop, get_or, set, get_or-eq_default, length-drop}
-use lib.Seq.{drop-drop}
-use borrow.Author.Tests.{ltb-true}
+use lib.Dec.{eqb, ltb, leb}
+use lib.ListN.{length, take, drop, get_or, get_or-eq_default, length-drop, drop_of_length-le}
+use lib.Seq.{get_or-drop, drop-drop}
+use borrow.Author.Tests.{ltb-true, leb-true, leb-false}
 use Rattle.format.specs.Pick.{pick}
 use Rattle.text.specs.Bytes.{bytes_of}
-use Rattle.vcd_text.specs.Header.{Wire, line_of}
-use Rattle.vcd_read.specs.declared.wires.WireAt.{WireAt}
-use Rattle.vcd_read.specs.Wires.{starts, visible, name_of, var_words, end_words, name_here, named, wire_here, is_wire, wire_end, no_wire, wire_at}
-use Rattle.vcd_read.specs.Wires.{wires_of, wires_end, same, clash_of, twice_of, code_named, filled}
-use Rattle.vcd_read.proofs.Laws.Starts.{starts_within, same_is, name_take}
+use Rattle.vcd_text.specs.Header.{line_of}
+use Rattle.vcd_read.specs.Wires.{starts, visible, name_of, var_words, end_words, name_here, named, wire_here, is_wire, wire_end}
+use Rattle.vcd_read.specs.Wires.{wires_of, wires_end}
+use Rattle.vcd_read.proofs.Laws.Starts.{starts_within, name_take}
 
 -- ---- no wire ----
 
-if_none : (b : Bool) → pick b false false ≡ false
+if_none : (a b c : Bool) → (pick a false false ≡ false) × (pick a (pick b false false) false ≡ false) × (pick a (pick b (pick c false false) false) false ≡ false)
 unfolding pick
-if_none true = refl
-if_none false = refl
-
-none_here : (text : List ℕ) (at : ℕ) → is_wire text ≡ false → wire_at text at ≡ no_wire
-unfolding wire_at pick
-none_here text at h = rw h
-
-pub other_words : (text : List ℕ) (at : ℕ) → starts var_words text ≡ false → wire_at text at ≡ no_wire
-unfolding is_wire pick
-other_words text at h = none_here text at (rw h)
-
-pub no_code : (text : List ℕ) (at : ℕ) → (visible (get_or text 12 0) && eqb (get_or text 13 0) 32) ≡ false → wire_at text at ≡ no_wire
-unfolding is_wire pick
-no_code text at h = none_here text at (rw h (if_none (starts var_words text)))
+if_none true true true = (refl, refl, refl)
+if_none true true false = (refl, refl, refl)
+if_none true false true = (refl, refl, refl)
+if_none true false false = (refl, refl, refl)
+if_none false true true = (refl, refl, refl)
+if_none false true false = (refl, refl, refl)
+if_none false false true = (refl, refl, refl)
+if_none false false false = (refl, refl, refl)
 
 and_false' : (b : Bool) → (b && false) ≡ false
 and_false' true = refl
 and_false' false = refl
 
--- it ends before its name
-pub too_short : (text : List ℕ) (at : ℕ) → length text ≤ 13 → wire_at text at ≡ no_wire
-too_short text at h = no_code text at (rw (get_or-eq_default text 0 h) (and_false' (visible (get_or text 12 0))))
+module _ (text : List ℕ) where
+  pub other_words : starts var_words text ≡ false → is_wire text ≡ false
+  unfolding is_wire pick
+  other_words h = rw h
 
-pub no_name : (text : List ℕ) (at : ℕ) → named (length (name_here text)) ≡ false → wire_at text at ≡ no_wire
-unfolding is_wire pick
-no_name text at h =
-    none_here text at (rw h (go (visible (get_or text 12 0) && eqb (get_or text 13 0) 32) (starts var_words text)))
-  where
-    go : (b c : Bool) → pick c (pick b false false) false ≡ false
-    go true true = refl
-    go false true = refl
-    go true false = refl
-    go false false = refl
+  no_pair : (visible (get_or text 12 0) && eqb (get_or text 13 0) 32) ≡ false → is_wire text ≡ false
+  unfolding is_wire pick
+  no_pair h = rw h (if_none (starts var_words text) true true).0
 
-pub no_end : (text : List ℕ) (at : ℕ) → starts end_words (drop (14 + length (name_here text)) text) ≡ false → wire_at text at ≡ no_wire
-unfolding is_wire pick
-no_end text at h =
-    none_here text at (rw h (go (named (length (name_here text))) (visible (get_or text 12 0) && eqb (get_or text 13 0) 32) (starts var_words text)))
-  where
-    go : (a b c : Bool) → pick c (pick b (pick a false false) false) false ≡ false
-    go true true true = refl
-    go false true true = refl
-    go true false true = refl
-    go false false true = refl
-    go true true false = refl
-    go false true false = refl
-    go true false false = refl
-    go false false false = refl
+  pub no_code : visible (get_or text 12 0) ≡ false → is_wire text ≡ false
+  no_code h = no_pair (rw h)
 
--- ---- a wire ----
+  pub no_blank : eqb (get_or text 13 0) 32 ≡ false → is_wire text ≡ false
+  no_blank h = no_pair (rw h (and_false' (visible (get_or text 12 0))))
 
-pub wire_is : (text : List ℕ) → starts var_words text ≡ true → (visible (get_or text 12 0) && eqb (get_or text 13 0) 32) ≡ true
-    → named (length (name_here text)) ≡ true → starts end_words (drop (14 + length (name_here text)) text) ≡ true → is_wire text ≡ true
-unfolding is_wire pick
-wire_is text a b c d = rw (a, b, c, d)
+  pub too_short : length text ≤ 12 → is_wire text ≡ false
+  too_short h = no_code (rw (get_or-eq_default text 0 h))
 
-pub wire_here_lem : (text : List ℕ) (at : ℕ) → is_wire text ≡ true
-    → wire_at text at ≡ record { here = true; code = get_or text 12 0; length = length (name_here text); end = at + wire_end text }
-unfolding wire_at pick
-wire_here_lem text at h = rw h
+  pub no_name : named (length (name_here text)) ≡ false → is_wire text ≡ false
+  unfolding is_wire pick
+  no_name h = rw h (if_none (starts var_words text) (visible (get_or text 12 0) && eqb (get_or text 13 0) 32) true).1
 
--- a name is no longer than what is left of the text
-pub name_within : (n : ℕ) (text : List ℕ) → length (name_of n text) ≤ length text
-unfolding name_of pick
-name_within zero text = omega arith
-name_within (suc n) [] = omega arith
-name_within (suc n) (b ∷ bs) = go (visible b) (name_within n bs)
-  where
-    go : (t : Bool) → length (name_of n bs) ≤ length bs → length (pick t (b ∷ name_of n bs) []) ≤ suc (length bs)
-    go true h = omega arith
-    go false h = omega arith
+  pub no_end : starts end_words (drop (14 + length (name_here text)) text) ≡ false → is_wire text ≡ false
+  unfolding is_wire pick
+  no_end h = rw h (if_none (starts var_words text) (visible (get_or text 12 0) && eqb (get_or text 13 0) 32) (named (length (name_here text)))).2
 
--- ---- one after the other ----
+  -- ---- a wire ----
+
+  pub wire_is : starts var_words text ≡ true → visible (get_or text 12 0) ≡ true → eqb (get_or text 13 0) 32 ≡ true
+      → named (length (name_here text)) ≡ true → starts end_words (drop (14 + length (name_here text)) text) ≡ true → is_wire text ≡ true
+  unfolding is_wire pick
+  wire_is a b c d e = rw (a, b, c, d, e)
 
 taken_end : (t r : Bool) → pick t r false ≡ true → (t ≡ true) × (r ≡ true)
 unfolding pick
@@ -108,14 +79,37 @@ wire_within text h =
     let d = (taken_end _ _ c).1 in
     omega (arith, starts_within end_words (drop (14 + length (name_here text)) text) d, length-drop (14 + length (name_here text)) text)
 
--- what the code's answer says of it
-pub here_is : (text : List ℕ) (at : ℕ) → (wire_at text at).here ≡ is_wire text
-unfolding wire_at pick
-here_is text at = go (is_wire text)
-  where
-    go : (t : Bool) → (pick t (record { here = true; code = get_or text 12 0; length = length (name_here text); end = at + wire_end text }) no_wire).here ≡ t
-    go true = refl
-    go false = refl
+-- ---- the pieces of a line, as they are taken off ----
+
+module _ (text rest : List ℕ) (code : ℕ) (e : drop 12 text ≡ code ∷ rest) where
+  pub code_at : get_or text 12 0 ≡ code
+  code_at = sym (get_or-drop 12 text 0 0) ∙ ap (λ (l : List ℕ). get_or l 0 0) e
+
+  after-code : drop 13 text ≡ rest
+  after-code = sym (drop-drop 1 12 text) ∙ ap (drop 1) e
+
+  pub blank_at : get_or text 13 0 ≡ get_or rest 0 0
+  blank_at = sym (get_or-drop 13 text 0 0) ∙ ap (λ (l : List ℕ). get_or l 0 0) after-code
+
+  pub name_at : drop 14 text ≡ drop 1 rest
+  name_at = sym (drop-drop 1 13 text) ∙ ap (drop 1) after-code
+
+module _ (text rest : List ℕ) (n : ℕ) (e : drop 14 text ≡ rest) (s : n ≡ length (name_of 33 rest)) where
+  pub size_at : n ≡ length (name_here text)
+  size_at = s ∙ ap (λ (l : List ℕ). length (name_of 33 l)) (sym e)
+
+  pub name_there : take n rest ≡ name_here text
+  name_there = rw s (sym (name_take 33 rest)) ∙ ap (name_of 33) (sym e)
+
+  pub after_name : drop n rest ≡ drop (14 + length (name_here text)) text
+  after_name = ap (drop n) (sym e) ∙ drop-drop n 14 text ∙ ap (λ (k : ℕ). drop (14 + k) text) size_at
+
+pub after_line : (text : List ℕ) → drop 6 (drop (14 + length (name_here text)) text) ≡ drop (wire_end text) text
+after_line text =
+    let e : 14 + length (name_here text) + 6 ≡ wire_end text = omega arith in
+    drop-drop 6 (14 + length (name_here text)) text ∙ ap (λ (k : ℕ). drop k text) e
+
+-- ---- one after the other ----
 
 pub wires_none : (n : ℕ) (text : List ℕ) → is_wire text ≡ false → (wires_of n text ≡ []) × (wires_end n text ≡ 0)
 unfolding wires_of wires_end pick
@@ -132,94 +126,20 @@ pub wires_next : (n : ℕ) (text : List ℕ) → is_wire text ≡ true
 unfolding wires_of wires_end pick
 wires_next n text h = (rw h, rw h)
 
--- ---- what the code is told of a wire at a place of the whole text ----
+-- the text after them
+pub beyond_next : (n : ℕ) (text : List ℕ) → is_wire text ≡ true
+    → drop (wires_end n (drop (wire_end text) text)) (drop (wire_end text) text) ≡ drop (wires_end (suc n) text) text
+beyond_next n text h = rw (wires_next n text h).1 (drop-drop (wires_end n (drop (wire_end text) text)) (wire_end text) text)
 
-pub record Here (whole : List ℕ) (at : ℕ) (w : WireAt) : Type 0 where
-  pub is : is_wire (drop at whole) ≡ true
-  pub code : w.code ≡ (wire_here (drop at whole)).code
-  pub size : w.length ≡ length (name_here (drop at whole))
-  pub rest : drop w.end whole ≡ drop (wire_end (drop at whole)) (drop at whole)
-  pub fits : w.end ≤ length whole
-  pub name : at + 14 + w.length ≤ length whole
-
-pub told_here : (whole : List ℕ) (at : ℕ) (w : WireAt) → at ≤ length whole → w ≡ wire_at (drop at whole) at → w.here ≡ true → Here whole at w
-told_here whole at w l e h =
-    let text = drop at whole in
-    let is : is_wire text ≡ true = sym (ap (λ (x : WireAt). x.here) e ∙ here_is text at) ∙ h in
-    let told = e ∙ wire_here_lem text at is in
-    let end = ap (λ (x : WireAt). x.end) told in
-    let size = ap (λ (x : WireAt). x.length) told in
-    let inside = wire_within text is in
-    let left = length-drop at whole in
-    record {
-      is = is;
-      code = ap (λ (x : WireAt). x.code) told;
-      size = size;
-      rest = rw end (sym (drop-drop (wire_end text) at whole));
-      fits = omega arith;
-      name = omega arith;
-    }
-
-pub told_none : (whole : List ℕ) (at : ℕ) (w : WireAt) → w ≡ wire_at (drop at whole) at → w.here ≡ false → is_wire (drop at whole) ≡ false
-told_none whole at w e h = sym (ap (λ (x : WireAt). x.here) e ∙ here_is (drop at whole) at) ∙ h
-
--- the name that stands there is the wire's
-pub same_here : (whole : List ℕ) (at : ℕ) (w : WireAt) (name : List ℕ) (r : Bool) → Here whole at w
-    → r ≡ (eqb (length name) w.length && starts name (drop (at + 14) whole)) → r ≡ same name (name_here (drop at whole))
-same_here whole at w name r here e =
-    e ∙ rw (here.size, ← drop-drop 14 at whole) (same_is name (drop 14 (drop at whole)) 33)
-
--- and so is the part of the text that is lent as its name
-name_part : (whole : List ℕ) (at : ℕ) (w : WireAt) → Here whole at w
-    → take (at + 14 + w.length - (at + 14)) (drop (at + 14) whole) ≡ name_here (drop at whole)
-name_part whole at w here =
-    let e : at + 14 + w.length - (at + 14) ≡ w.length = omega arith in
-    rw (e, here.size, ← drop-drop 14 at whole) (sym (name_take 33 (drop 14 (drop at whole))))
-
-pub clash_told : (whole : List ℕ) (at : ℕ) (w : WireAt) (n : ℕ) (r : Bool) → Here whole at w
-    → r ≡ clash_of (record { code = w.code; name = take (at + 14 + w.length - (at + 14)) (drop (at + 14) whole) }) (wires_of n (drop w.end whole))
-    → r ≡ clash_of (wire_here (drop at whole)) (wires_of n (drop (wire_end (drop at whole)) (drop at whole)))
-clash_told whole at w n r here e = e ∙ rw (name_part whole at w here, here.rest, here.code)
-
--- ---- the wires by their codes and names ----
-
-module _ (n : ℕ) (text : List ℕ) (is : is_wire text ≡ true) where
-  pub named-next : (name : List ℕ) → code_named name (wires_of (suc n) text)
-      ≡ pick (same name (name_here text)) (get_or text 12 0) (code_named name (wires_of n (drop (wire_end text) text)))
-  unfolding code_named
-  named-next name = rw (wires_next n text is).0
-
-  pub clash-next : (w : Wire) → clash_of w (wires_of (suc n) text)
-      ≡ pick (eqb (get_or text 12 0) w.code || same w.name (name_here text)) true (clash_of w (wires_of n (drop (wire_end text) text)))
-  unfolding clash_of
-  clash-next w = rw (wires_next n text is).0
-
-  pub twice-next : twice_of (wires_of (suc n) text)
-      ≡ pick (clash_of (wire_here text) (wires_of n (drop (wire_end text) text))) true (twice_of (wires_of n (drop (wire_end text) text)))
-  unfolding twice_of
-  twice-next = rw (wires_next n text is).0
-
-  pub filled_next : (table : List ℕ) → filled (wires_of (suc n) text) table
-      ≡ filled (wires_of n (drop (wire_end text) text)) (set table (get_or text 12 0) 1)
-  unfolding filled
-  filled_next table = rw (wires_next n text is).0
-
--- where there is none, or no more are looked at
-pub none_named : (name : List ℕ) (ws : List Wire) → ws ≡ [] → code_named name ws ≡ 0
-unfolding code_named
-none_named name ws e = rw e
-
-pub none_clashes : (w : Wire) (ws : List Wire) → ws ≡ [] → clash_of w ws ≡ false
-unfolding clash_of
-none_clashes w ws e = rw e
-
-pub none_twice : (ws : List Wire) → ws ≡ [] → twice_of ws ≡ false
-unfolding twice_of
-none_twice ws e = rw e
-
-pub none_filled : (ws : List Wire) (table : List ℕ) → ws ≡ [] → filled ws table ≡ table
-unfolding filled
-none_filled ws table e = rw e
+pub wires_few : (n : ℕ) (text : List ℕ) → length (wires_of n text) ≤ n
+unfolding wires_of pick
+wires_few zero text = omega arith
+wires_few (suc n) text = go (is_wire text) (wires_few n (drop (wire_end text) text))
+  where
+    go : (t : Bool) → length (wires_of n (drop (wire_end text) text)) ≤ n
+        → length (pick t (wire_here text ∷ wires_of n (drop (wire_end text) text)) []) ≤ suc n
+    go true h = omega arith
+    go false h = omega arith
 
 -- a code is a byte
 pub code_small : (text : List ℕ) → is_wire text ≡ true → get_or text 12 0 < 256
@@ -230,3 +150,16 @@ code_small text h =
     let v = ((and-eq-true_iff (visible (get_or text 12 0)) _).0 c).0 in
     let u = ((and-eq-true_iff (ltb 32 (get_or text 12 0)) _).0 v).1 in
     omega (arith, ltb-true (get_or text 12 0) 127 u)
+
+-- a text that ends before its wires has none
+pub from-wires : (text : List ℕ) (n : ℕ) → n ≡ min (length text) 46 → drop n text ≡ drop 46 text
+from-wires text n e = go (leb (length text) 46) refl
+  where
+    go : (t : Bool) → leb (length text) 46 ≡ t → drop n text ≡ drop 46 text
+    go true h =
+        let l = leb-true (length text) 46 h in
+        drop_of_length-le text (omega arith) ∙ sym (drop_of_length-le text l)
+    go false h =
+        let l = leb-false (length text) 46 h in
+        let m : n ≡ 46 = omega arith in
+        rw m

@@ -1,61 +1,26 @@
 -- `clashes` meets its contract. The invariant of its loop: the wires that are left decide. Assumes nothing.
-use Prim.Native.Nat.{suc, ◌-◌}
-use mathlib.Core.Path.{◌≡◌, refl, sym, ◌∙◌}
-use native.Mathlib.Omega.{arith}
-use lib.ListN.{drop}
-use borrow.Author.Tests.{not-true, not-false}
-use Rattle.format.proofs.Laws.Pick.{pick_yes, pick_no}
-use Rattle.vcd_text.specs.Header.{Wire}
-use Rattle.vcd_read.specs.Wires.{wires_of, clash_of}
-use Rattle.vcd_read.proofs.Laws.Wires.{told_here, told_none, same_here, wires_none, wires_zero, clash-next}
-use Rattle.vcd_read.proofs.Laws.Wires.{none_clashes}
+use mathlib.Core.Path.{sym, ◌∙◌}
+use Rattle.vcd_read.specs.Wires.{told, left}
+use Rattle.vcd_read.proofs.Laws.Named.{clash_none, clash_code, clash_name, clash_no}
 use Rattle.vcd_read.proofs.named.clashes.Goals as goal
+use Rattle.vcd_read.proofs.named.clashes.Goals.{then-other-wire-via-then-other-wire, then-other-wire-via-else-other-wire+then-eq}
 
-pub loop-left-init : goal.loop-left-init
-loop-left-init c = (omega arith, omega arith, refl)
+pub returns-then-other-wire : goal.returns-then-other-wire
+returns-then-other-wire c =
+    let w = told c.args.wire in
+    let all = left c.loop-other.other-iterator in
+    let v = told c.in-Some.other in
+    let vs = left c.next.new.self in
+    let e = c.in-Some.ensures.steps.0 in
+    elim c.then-other-wire.branch [
+      | then-other-wire-via-then-other-wire b ↦ sym (clash_code w all v vs e b.if-other-wire.true) ∙ c.loop-other.invariant
+      | then-other-wire-via-else-other-wire+then-eq b ↦ sym (clash_name w all v vs e (sym b.eq.ensures ∙ b.if-eq.true)) ∙ c.loop-other.invariant
+    ]
 
-pub returns-then-not-wire : goal.returns-then-not-wire
-returns-then-not-wire c =
-    let a = c.args in
-    let none = told_none a.text.now c.loop-left.next _ c.wire_at-wire.ensures (not-true _ c.if-not-wire.true) in
-    sym (none_clashes (record { code = a.code; name = a.name.now }) _ (wires_none c.loop-left.left _ none).0) ∙ c.loop-left.invariant.2
-
-pub overflow_add-next : goal.overflow_add-next
-overflow_add-next c =
-    let a = c.args in
-    let here = told_here a.text.now c.loop-left.next _ c.loop-left.invariant.1 c.wire_at-wire.ensures (not-false _ c.if-not-wire.false) in
-    omega (arith, here.name)
-
-pub same_name-requires : goal.same_name-requires
-same_name-requires c =
-    let a = c.args in
-    let here = told_here a.text.now c.loop-left.next _ c.loop-left.invariant.1 c.wire_at-wire.ensures (not-false _ c.if-not-wire.false) in
-    omega (arith, here.name)
-
-pub returns-then-wire-code : goal.returns-then-wire-code
-returns-then-wire-code c =
-    let a = c.args in
-    let here = told_here a.text.now c.loop-left.next _ c.loop-left.invariant.1 c.wire_at-wire.ensures (not-false _ c.if-not-wire.false) in
-    let text = drop c.loop-left.next a.text.now in
-    let e : c.loop-left.left ≡ suc (c.loop-left.left - 1) = omega arith in
-    let w : Wire = record { code = a.code; name = a.name.now } in
-    let decided : clash_of w (wires_of (suc (c.loop-left.left - 1)) text) ≡ clash_of w (wires_of a.most (drop a.at a.text.now)) = rw (← e) c.loop-left.invariant.2 in
-    let name = same_here a.text.now c.loop-left.next _ a.name.now _ here c.same_name.ensures in
-    sym (pick_yes _ _ _ (rw (← here.code, ← name) c.if-wire-code.true)) ∙ sym (clash-next (c.loop-left.left - 1) text here.is w) ∙ decided
-
-pub loop-left-preserved : goal.loop-left-preserved
-loop-left-preserved c =
-    let a = c.args in
-    let here = told_here a.text.now c.loop-left.next _ c.loop-left.invariant.1 c.wire_at-wire.ensures (not-false _ c.if-not-wire.false) in
-    let text = drop c.loop-left.next a.text.now in
-    let e : c.loop-left.left ≡ suc (c.loop-left.left - 1) = omega arith in
-    let w : Wire = record { code = a.code; name = a.name.now } in
-    let decided : clash_of w (wires_of (suc (c.loop-left.left - 1)) text) ≡ clash_of w (wires_of a.most (drop a.at a.text.now)) = rw (← e) c.loop-left.invariant.2 in
-    let name = same_here a.text.now c.loop-left.next _ a.name.now _ here c.same_name.ensures in
-    (omega arith, here.fits, rw here.rest (sym (pick_no _ _ _ (rw (← here.code, ← name) c.if-wire-code.false)) ∙ sym (clash-next (c.loop-left.left - 1) text here.is w) ∙ decided))
+pub loop-other-preserved : goal.loop-other-preserved
+loop-other-preserved c =
+    sym (clash_no (told c.args.wire) (left c.loop-other.other-iterator) (told c.in-Some.other) (left c.next.new.self) c.in-Some.ensures.steps.0 c.if-other-wire.false (sym c.eq.ensures ∙ c.if-eq.false))
+    ∙ c.loop-other.invariant
 
 pub returns : goal.returns
-returns c =
-    let a = c.args in
-    let e : c.loop-left.left ≡ 0 = omega arith in
-    sym (none_clashes (record { code = a.code; name = a.name.now }) _ (rw e (wires_zero (drop c.loop-left.next a.text.now)).0)) ∙ c.loop-left.invariant.2
+returns c = sym (clash_none (told c.args.wire) (left c.loop-other.other-iterator) c.in-None.ensures.steps.0) ∙ c.loop-other.invariant

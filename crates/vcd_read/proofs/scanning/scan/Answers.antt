@@ -1,24 +1,26 @@
 -- `scan` meets its contract: the header first, and then the lines after it, with its codes as a table. Assumes nothing.
-use mathlib.Core.Path.{◌∙◌}
+use mathlib.Core.Path.{◌≡◌, sym, ◌∙◌, ap}
+use mathlib.Core.Bool.{false}
 use native.Mathlib.Omega.{arith}
-use borrow.Author.Tests.{not-true, not-false}
-use Rattle.vcd_read.proofs.Laws.Header.{header_open, not_inside, is_inside, judged_body}
+use lib.ListN.{replicate}
+use Rattle.std.proofs.lemmas.List.{take_rest}
+use Rattle.vcd_read.specs.Wires.{wires_in, filled}
+use Rattle.vcd_read.specs.Scan.{in_table, checked_of, unchecked, judged}
+use Rattle.vcd_read.proofs.Laws.Header.{not_inside, is_inside, judged_body}
 use Rattle.vcd_read.proofs.scanning.scan.Goals as goal
 
-pub returns-then-not-header : goal.returns-then-not-header
-returns-then-not-header c =
+pub returns-in_default : goal.returns-in_default
+returns-in_default c =
     let x = c.args in
-    (c.refuse.ensures ∙ not_inside x.text.now x.name_a.now x.name_b.now (rw (← c.read_header-header.ensures.0) (not-true _ c.if-not-header.true)), rw c.refuse.ensures (omega arith))
-
-pub fill_codes-requires : goal.fill_codes-requires
-fill_codes-requires c =
-    let x = c.args in
-    header_open x.text.now x.name_a.now x.name_b.now (rw (← c.read_header-header.ensures.0) (not-false _ c.if-not-header.false))
+    (c.refuse.ensures ∙ sym (not_inside x.text.now x.name_a.now x.name_b.now (sym c.in_default.ensures.read)), rw c.refuse.ensures (omega arith))
 
 pub returns : goal.returns
 returns c =
     let x = c.args in
-    let whole = is_inside x.text.now x.name_a.now x.name_b.now _ _ _ c.read_header-header.ensures.0 (not-false _ c.if-not-header.false) c.fill_codes.ensures
-    c.check_from-checked.ensures in
-    let b = judged_body c.read_header-header.result c.check_from-checked.result in
-    (c.judge.ensures ∙ whole, rw c.judge.ensures (omega (arith, b, c.read_header-header.ensures.1)))
+    let h = c.in-Some.header in
+    let codes : c.codes_of-codes.result ≡ filled (wires_in x.text.now) (replicate 256 false)
+    = c.codes_of-codes.ensures ∙ ap (λ ws. filled ws (replicate 256 false)) c.wires_in.ensures.wires in
+    let checked = c.check-checked.ensures ∙ ap (checked_of (in_table c.codes_of-codes.result) unchecked) (take_rest x.text.now h.body) in
+    let whole = is_inside x.text.now x.name_a.now x.name_b.now h c.codes_of-codes.result (sym c.in-Some.ensures.read) codes in
+    let b = judged_body h c.check-checked.result in
+    (c.judge.ensures ∙ ap (judged h) checked ∙ whole, rw c.judge.ensures (omega (arith, b, c.in-Some.ensures.within)))

@@ -1,101 +1,79 @@
--- `wire_at` meets its contract: each test is the definition's, in its order. Assumes nothing.
-use Prim.Native.Nat.{ℕ, ◌+◌, ◌≤◌}
-use mathlib.Core.Path.{◌≡◌, sym, ◌∙◌}
-use mathlib.Core.Bool.{Bool, true, false, ◌&&◌}
-use mathlib.Core.List.{List}
+-- `wire_at` meets its contract: each piece that is taken off is one that the definition asks for, in its order. Assumes nothing.
+use mathlib.Core.Path.{◌≡◌, sym, ◌∙◌, ap}
+use mathlib.Core.List.{[], ◌∷◌}
 use native.Mathlib.Omega.{arith}
-use lib.Dec.{eqb}
-use lib.ListN.{length, drop, get_or, length-drop}
-use lib.Seq.{get_or-drop, drop-drop}
+use lib.ListN.{length, drop, length-drop}
 use Rattle.text.specs.Bytes.{bytes_of}
 use Rattle.vcd_text.specs.Header.{line_of}
-use Rattle.vcd_read.specs.Wires.{starts, visible, name_of, end_words, name_here}
-use Rattle.vcd_read.proofs.Laws.Starts.{starts_within}
-use Rattle.vcd_read.proofs.Laws.Wires.{other_words, no_code, too_short, no_name, no_end, wire_is, wire_here_lem, name_within}
+use Rattle.vcd_read.specs.Wires.{var_words, end_words, name_here}
+use Rattle.vcd_read.proofs.Laws.Starts.{stripped_is, visible_is, blank_is, name_within}
+use Rattle.vcd_read.proofs.Laws.Wires.{other_words, too_short, no_code, no_blank, no_name, no_end, wire_is, code_at, blank_at, name_at, size_at, name_there, after_name, after_line}
 use Rattle.vcd_read.proofs.wires.wire_at.Goals as goal
 
--- what is looked at in the text is what is looked at from the place on
-code_is : (l : List ℕ) (at : ℕ) (v t : Bool) → v ≡ visible (get_or l (at + 12) 0) → (v && eqb (get_or l (at + 13) 0) 32) ≡ t
-    → (visible (get_or (drop at l) 12 0) && eqb (get_or (drop at l) 13 0) 32) ≡ t
-code_is l at v t e h = rw (get_or-drop at l 12 0, get_or-drop at l 13 0, ← e) h
+pub returns-in_err-from_code : goal.returns-in_err-from_code
+unfolding bytes_of
+returns-in_err-from_code c =
+    rw c.from_residual.ensures (other_words c.args.text.now (sym (stripped_is var_words c.args.text.now) ∙ c.in_err-from_code.ensures.cases))
 
-name_is : (l : List ℕ) (at n : ℕ) → n ≡ length (name_of 33 (drop (at + 14) l)) → length (name_here (drop at l)) ≡ n
-name_is l at n e = rw (drop-drop 14 at l) (sym e)
+pub returns-in_err-code : goal.returns-in_err-code
+returns-in_err-code c =
+    let l = length-drop 12 c.args.text.now in
+    let e = ap length c.in_ok-from_code.ensures.cases.1 in
+    rw c.from_residual-in_err-code.ensures (too_short c.args.text.now (omega (arith, c.in_err-code.ensures.cases)))
 
-end_within : (l : List ℕ) (at n : ℕ) → at + 14 ≤ length l → n ≡ length (name_of 33 (drop (at + 14) l)) → at + 14 + n ≤ length l
-end_within l at n h e = omega (arith, name_within 33 (drop (at + 14) l), length-drop (at + 14) l)
+pub returns-then-not-is_ascii_graphic : goal.returns-then-not-is_ascii_graphic
+returns-then-not-is_ascii_graphic c =
+    let text = c.args.text.now in
+    let e : drop 12 text ≡ c.in_ok-code.code.now ∷ c.in_ok-code.after_code.now = sym c.in_ok-from_code.ensures.cases.1 ∙ c.in_ok-code.ensures.cases.0 in
+    no_code text (rw (code_at text _ _ e, ← visible_is c.in_ok-code.code.now) (sym c.is_ascii_graphic.ensures.value ∙ c.if-not-is_ascii_graphic.true))
 
-line_within : (l : List ℕ) (at n : ℕ) → starts end_words (drop (at + 14 + n) l) ≡ true → at + 14 + n + 6 ≤ length l
-unfolding bytes_of line_of
-line_within l at n h = omega (arith, starts_within end_words (drop (at + 14 + n) l) h, length-drop (at + 14 + n) l)
+pub returns-in_err-from_name : goal.returns-in_err-from_name
+returns-in_err-from_name c =
+    let text = c.args.text.now in
+    let after = c.in_ok-code.after_code.now in
+    let e : drop 12 text ≡ c.in_ok-code.code.now ∷ after = sym c.in_ok-from_code.ensures.cases.1 ∙ c.in_ok-code.ensures.cases.0 in
+    rw c.from_residual-in_err-from_name.ensures
+    (no_blank text (rw (blank_at text _ _ e) (sym (blank_is after) ∙ sym (stripped_is (32 ∷ []) after) ∙ c.in_err-from_name.ensures.cases)))
 
-end_is : (l : List ℕ) (at n : ℕ) (t : Bool) → starts end_words (drop (at + 14 + n) l) ≡ t → starts end_words (drop (14 + n) (drop at l)) ≡ t
-end_is l at n t h =
-    let e : at + (14 + n) ≡ at + 14 + n = omega arith in
-    rw (drop-drop (14 + n) at l, e) h
-
-pub returns-then-not-starts_at : goal.returns-then-not-starts_at
-unfolding bytes_of line_of
-returns-then-not-starts_at c =
-    let a = c.args in
-    let text = drop a.at a.text.now in
-    c.no_wire.ensures ∙ sym (other_words text a.at (sym c.starts_at.ensures ∙ c.if-not-starts_at.true))
-
-pub returns-then-text-at-lt14 : goal.returns-then-text-at-lt14
-returns-then-text-at-lt14 c =
-    let a = c.args in
-    let text = drop a.at a.text.now in
-    c.no_wire-then-text-at-lt14.ensures ∙ sym (too_short text a.at (simp length-drop (omega arith)))
-
-pub returns-then-not-is_visible-blank : goal.returns-then-not-is_visible-blank
-returns-then-not-is_visible-blank c =
-    let a = c.args in
-    c.no_wire-then-not-is_visible-blank.ensures ∙ sym (no_code (drop a.at a.text.now) a.at (code_is a.text.now a.at _ false c.is_visible.ensures c.if-not-is_visible-blank.true))
+pub split_at-requires : goal.split_at-requires
+split_at-requires c = omega (arith, name_within 33 c.in_ok-from_name.from_name.now, c.name_length.ensures)
 
 pub returns-then-not-is_named : goal.returns-then-not-is_named
 returns-then-not-is_named c =
-    let a = c.args in
-    let e = name_is a.text.now a.at _ c.name_length-length.ensures in
-    c.no_wire-then-not-is_named.ensures ∙ sym (no_name (drop a.at a.text.now) a.at (rw e (sym c.is_named.ensures ∙ c.if-not-is_named.true)))
+    let text = c.args.text.now in
+    let after = c.in_ok-code.after_code.now in
+    let e : drop 12 text ≡ c.in_ok-code.code.now ∷ after = sym c.in_ok-from_code.ensures.cases.1 ∙ c.in_ok-code.ensures.cases.0 in
+    let n : drop 14 text ≡ c.in_ok-from_name.from_name.now = name_at text _ _ e ∙ sym c.in_ok-from_name.ensures.cases.1 in
+    let size = size_at text _ _ n c.name_length.ensures in
+    no_name text (rw (← size, ← c.split_at.ensures.front_len) (sym c.is_named.ensures ∙ c.if-not-is_named.true))
 
-pub overflow_add-at-3 : goal.overflow_add-at-3
-overflow_add-at-3 c =
-    let a = c.args in
-    let b = end_within a.text.now a.at _ (omega arith) c.name_length-length.ensures in
-    omega arith
-
-pub starts_at-requires-2 : goal.starts_at-requires-2
-starts_at-requires-2 c =
-    let a = c.args in
-    end_within a.text.now a.at _ (omega arith) c.name_length-length.ensures
-
-pub returns-then-not-starts_at-2 : goal.returns-then-not-starts_at-2
+pub returns-in_err-rest : goal.returns-in_err-rest
 unfolding bytes_of line_of
-returns-then-not-starts_at-2 c =
-    let a = c.args in
-    let e = name_is a.text.now a.at _ c.name_length-length.ensures in
-    c.no_wire-then-not-starts_at-2.ensures
-    ∙ sym (no_end (drop a.at a.text.now) a.at
-    (rw e (end_is a.text.now a.at c.name_length-length.result false (sym c.starts_at-2.ensures ∙ c.if-not-starts_at-2.true))))
-
-pub overflow_add-result : goal.overflow_add-result
-unfolding bytes_of line_of
-overflow_add-result c =
-    let a = c.args in
-    let h = sym c.starts_at-2.ensures ∙ c.if-not-starts_at-2.false in
-    let b = line_within a.text.now a.at c.name_length-length.result h in
-    omega arith
+returns-in_err-rest c =
+    let text = c.args.text.now in
+    let after = c.in_ok-code.after_code.now in
+    let e : drop 12 text ≡ c.in_ok-code.code.now ∷ after = sym c.in_ok-from_code.ensures.cases.1 ∙ c.in_ok-code.ensures.cases.0 in
+    let n : drop 14 text ≡ c.in_ok-from_name.from_name.now = name_at text _ _ e ∙ sym c.in_ok-from_name.ensures.cases.1 in
+    let from_end = c.split_at.ensures.back ∙ after_name text _ _ n c.name_length.ensures in
+    rw c.from_residual-in_err-rest.ensures
+    (no_end text (rw (← from_end) (sym (stripped_is end_words c.split_at.result.1.now) ∙ c.in_err-rest.ensures.cases)))
 
 pub returns : goal.returns
 unfolding bytes_of line_of
 returns c =
-    let a = c.args in
-    let text = drop a.at a.text.now in
-    let e = name_is a.text.now a.at _ c.name_length-length.ensures in
-    sym (wire_here_lem text a.at
-    (wire_is text
-    (sym c.starts_at.ensures ∙ c.if-not-starts_at.false)
-    (code_is a.text.now a.at _ true c.is_visible.ensures c.if-not-is_visible-blank.false)
-    (rw e (sym c.is_named.ensures ∙ c.if-not-is_named.false))
-    (rw e (end_is a.text.now a.at c.name_length-length.result true (sym c.starts_at-2.ensures ∙ c.if-not-starts_at-2.false))))
-    ∙ rw (e, get_or-drop a.at a.text.now 12 0))
+    let text = c.args.text.now in
+    let after = c.in_ok-code.after_code.now in
+    let e : drop 12 text ≡ c.in_ok-code.code.now ∷ after = sym c.in_ok-from_code.ensures.cases.1 ∙ c.in_ok-code.ensures.cases.0 in
+    let n : drop 14 text ≡ c.in_ok-from_name.from_name.now = name_at text _ _ e ∙ sym c.in_ok-from_name.ensures.cases.1 in
+    let size = size_at text _ _ n c.name_length.ensures in
+    let name : c.split_at.result.0.now ≡ name_here text = c.split_at.ensures.front ∙ name_there text _ _ n c.name_length.ensures in
+    let from_end = c.split_at.ensures.back ∙ after_name text _ _ n c.name_length.ensures in (
+      wire_is text
+          (sym (stripped_is var_words text) ∙ c.in_ok-from_code.ensures.cases.0)
+          (rw (code_at text _ _ e, ← visible_is c.in_ok-code.code.now) (sym c.is_ascii_graphic.ensures.value ∙ c.if-not-is_ascii_graphic.false))
+          (rw (blank_at text _ _ e) (sym (blank_is after) ∙ sym (stripped_is (32 ∷ []) after) ∙ c.in_ok-from_name.ensures.cases.0))
+          (rw (← size, ← c.split_at.ensures.front_len) (sym c.is_named.ensures ∙ c.if-not-is_named.false))
+          (rw (← from_end) (sym (stripped_is end_words c.split_at.result.1.now) ∙ c.in_ok-rest.ensures.cases.0)),
+      rw (name, code_at text _ _ e),
+      c.in_ok-rest.ensures.cases.1 ∙ ap (drop 6) from_end ∙ after_line text,
+    )
