@@ -31,8 +31,7 @@ const TOO_MANY: usize = 1000001;
 
 fn print_error(errors: &impl Print, line: u64) {
     let mut space = [0u8; 32];
-    let length = write_error(line, &mut space);
-    let _ = errors.write_all(&space[..length]);
+    let _ = errors.write_all(write_error(line, &mut space));
 }
 
 fn record_of(event: Event) -> EventRecord {

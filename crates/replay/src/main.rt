@@ -6,6 +6,7 @@ use chip_device::{Device, fresh};
 use chip_fast::at_rest;
 use chip_step::{Answer, step};
 use chip_ticks::tick_times;
+use records::seen_of;
 use replay_script::{Line, Place, first_place, next_line, next_place, tell};
 use replay_text::{write_error, write_seen};
 use std::io::Read;
@@ -24,26 +25,15 @@ struct Turn {
 }
 
 fn print_answer(rt: &impl Print, answer: Answer) -> Device {
-    let lines = answer.lines;
+    let seen = seen_of(answer.number, answer.byte, answer.fresh, answer.lines);
     let mut space = [0u8; 32];
-    let length = write_seen(
-        answer.number,
-        answer.byte,
-        lines.irq,
-        lines.txda,
-        lines.txdb,
-        lines.op,
-        answer.fresh,
-        &mut space,
-    );
-    let _ = rt.write_all(&space[..length]);
+    let _ = rt.write_all(write_seen(seen, &mut space));
     answer.state
 }
 
 fn print_error(rt: &impl Print, line: u64) {
     let mut space = [0u8; 32];
-    let length = write_error(line, &mut space);
-    let _ = rt.write_all(&space[..length]);
+    let _ = rt.write_all(write_error(line, &mut space));
 }
 
 // Does what a line says, and prints the answer: of many ticks the last one's.

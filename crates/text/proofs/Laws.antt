@@ -1,3 +1,4 @@
 -- The laws of text, a file a topic. Assumes nothing.
 pub mod Decimal
+pub mod Digits
 pub mod Puts

@@ -18,19 +18,17 @@ pub fn put_bytes(bytes: &[u8], at: usize, space: &mut [u8]) -> usize
     requires { at + length bytes.now < 2 ^ 64 }
     ensures { Puts at bytes.now space.old space.new result }
 {
-    let mut i = 0usize;
-    while i < bytes.len() {
-        put(bytes[i], at + i, space);
-        i += 1;
+    for (i, byte) in bytes.iter().enumerate() {
+        put(*byte, at + i, space);
     }
-    at + i
+    at + bytes.len()
 }
 
 // A level as text: 1 is high.
 pub fn level_digit(level: bool) -> u8
     ensures { result ≡ digit_of level }
 {
-    if level { 49 } else { 48 }
+    b'0' + u8::from(level)
 }
 
 // A number in decimal that has at most so many places.
@@ -42,10 +40,10 @@ pub fn put_decimal(number: u64, places: usize, at: usize, space: &mut [u8]) -> u
         return at;
     }
     if number < 10 {
-        put(48 + number as u8, at, space);
+        put(b'0' + number as u8, at, space);
         return at + 1;
     }
     let last = put_decimal(number / 10, places - 1, at, space);
-    put(48 + (number % 10) as u8, last, space);
+    put(b'0' + (number % 10) as u8, last, space);
     last + 1
 }

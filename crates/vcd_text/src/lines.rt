@@ -41,9 +41,9 @@ fn put_time(tick: u32, at: usize, space: &mut [u8]) -> usize
     requires { at + 22 < 2 ^ 64 }
     ensures { Puts at (time_line tick) space.old space.new result }
 {
-    put(35, at, space);
+    put(b'#', at, space);
     let end = put_decimal(tick_time(tick), 20, at + 1, space);
-    put(10, end, space);
+    put(b'\n', end, space);
     end + 1
 }
 
@@ -55,7 +55,7 @@ fn put_value(changed: bool, level: bool, code: u8, at: usize, space: &mut [u8]) 
     if changed {
         put(level_digit(level), at, space);
         put(code, at + 1, space);
-        put(10, at + 2, space);
+        put(b'\n', at + 2, space);
         return at + 3;
     }
     at
@@ -70,14 +70,12 @@ fn put_values(none: bool, before: u16, values: u16, at: usize, space: &mut [u8])
 {
     let mut old = before;
     let mut new = values;
-    let mut code = 33u8;
     let mut next = at;
-    while code < 44 {
-        let changed = none | (old % 2 != new % 2);
+    for code in b'!'..=b'+' {
+        let changed = none || old % 2 != new % 2;
         next = put_value(changed, new % 2 == 1, code, next, space);
         old /= 2;
         new /= 2;
-        code += 1;
     }
     next
 }

@@ -6,5 +6,5 @@ ghost use Rattle.vcd_text.specs.Time.{time_of};
 pub fn tick_time(tick: u32) -> u64
     ensures { result ≡ time_of tick }
 {
-    tick as u64 * 625000 / 2304
+    u64::from(tick) * 625000 / 2304
 }
