@@ -16,10 +16,7 @@ pub fn has_bit(byte: u8, number: u8) -> bool
 fn weight_of(bit: bool, weight: u8) -> u8
     ensures { (result ≡ weight_of bit weight) × (result ≤ weight) }
 {
-    if bit {
-        return weight;
-    }
-    0
+    u8::from(bit) * weight
 }
 
 // The byte whose bits these are, bit 7 first, as document 01 lists them.

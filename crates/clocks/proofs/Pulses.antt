@@ -9,7 +9,6 @@ use Rattle.format.specs.Digits.{bit}
 use Rattle.format.specs.Pick.{pick}
 use Rattle.format.proofs.Laws.Pick.{pick_yes}
 use Rattle.dividers.specs.declared.divider.Divided.{Divided}
-use Rattle.dividers.specs.declared.divider.Sixteenth.{Sixteenth}
 use Rattle.dividers.specs.Divider.{divided_of}
 use Rattle.dividers.specs.Rates.{period_of}
 use Rattle.dividers.proofs.Laws.Divider.{ticks_of, pulses_of, divided_at, sixteenth_at}
@@ -27,11 +26,11 @@ use Rattle.clocks.specs.Pulses.Side.{receives, transmits}
 phase_at : (n : Ticks) (m : ℕ) → 0 < n.0 → phase_after divided_of n m ≡ ticks_of (m % n.0)
 unfolding phase_after
 phase_at n zero z = rw (zero-mod n.0)
-phase_at n (suc m) z = ap (λ (q : Ticks). (divided_of q n).phase) (phase_at n m z) ∙ ap (λ (d : Divided). d.phase) (divided_at n m z)
+phase_at n (suc m) z = ap (λ (q : Ticks). (divided_of q n).phase) (phase_at n m z) ∙ ap (λ (d : Divided Ticks). d.phase) (divided_at n m z)
 
 pulse_at_lem : (n : Ticks) (m : ℕ) → 0 < n.0 → 0 < m → pulse_at divided_of n m ≡ eqb (m % n.0) 0
 pulse_at_lem n zero z y = absurd (omega arith)
-pulse_at_lem n (suc m) z y = ap (λ (q : Ticks). (divided_of q n).pulse) (phase_at n m z) ∙ ap (λ (d : Divided). d.pulse) (divided_at n m z)
+pulse_at_lem n (suc m) z y = ap (λ (q : Ticks). (divided_of q n).pulse) (phase_at n m z) ∙ ap (λ (d : Divided Ticks). d.pulse) (divided_at n m z)
 
 pulses_are : (n : Ticks) (m : ℕ) → 0 < n.0 → pulses_by divided_of n m ≡ m / n.0
 unfolding pulses_by
@@ -59,7 +58,7 @@ abbrev pub phase_of : Side → Phases → Ticks
 phase_of receives p = p.receiver
 phase_of transmits p = p.transmitter
 
-abbrev pub side_in : Side → Clocked → Divided
+abbrev pub side_in : Side → Clocked → Divided Ticks
 side_in side c = record { phase = phase_of side c.phases; pulse = pulsed side c }
 
 -- a channel's clocks are its two sides
@@ -100,7 +99,7 @@ after_events_lem side second csr [] p k h e = rw (add-zero k) e
 after_events_lem side second csr (b ∷ bs) p k h e =
     let moved = clocked_side side p second csr b ∙ side_at (phase_of side p) second (code_of side csr) k b (edge_of side b) h e in
     let sum : k + (bit b.tick + ticks_in bs) ≡ bit b.tick + k + ticks_in bs = omega arith in
-    rw sum (after_events_lem side second csr bs (clocked_of p second csr b).phases (bit b.tick + k) h (ap (λ (d : Divided). d.phase) moved))
+    rw sum (after_events_lem side second csr bs (clocked_of p second csr b).phases (bit b.tick + k) h (ap (λ (d : Divided Ticks). d.phase) moved))
 
 since_restart : (side : Side) (second : Bool) (csr : ℕ) (bs : List ClockEvent) → code_of side csr < 13
     → phase_of side (after_events clocked_of restarted second csr bs) ≡ ticks_of (ticks_in bs % (period_of second (code_of side csr)).0)
@@ -112,7 +111,7 @@ since_restart side second csr bs h = rw (zero-add (ticks_in bs)) at (after_event
 
 -- ---- the 1X transmitter clock ----
 
-abbrev pub bit_in : Clocked → Sixteenth
+abbrev pub bit_in : Clocked → Divided Pulses
 bit_in c = record { phase = c.phases.sixteenths; pulse = c.one }
 
 clocked_bit : (p : Phases) (second : Bool) (csr : ℕ) (b : ClockEvent)
@@ -140,17 +139,17 @@ after_sent second csr (b ∷ bs) p k h e =
     let rest : ℕ = sent_in clocked_of (clocked_of p second csr b).phases second csr bs in
     let moved = clocked_bit p second csr b ∙ bit_at p.sixteenths (csr % 16) k sent h e in
     let sum : k + (bit sent + rest) ≡ bit sent + k + rest = omega arith in
-    rw sum (after_sent second csr bs (clocked_of p second csr b).phases (bit sent + k) h (ap (λ (d : Sixteenth). d.phase) moved))
+    rw sum (after_sent second csr bs (clocked_of p second csr b).phases (bit sent + k) h (ap (λ (d : Divided Pulses). d.phase) moved))
 
 -- ---- both ----
 
 pulse_in : (side : Side) (p : Phases) (second : Bool) (csr : ℕ) (b : ClockEvent)
     → pulsed side (clocked_of p second csr b) ≡ (side_of (phase_of side p) second (code_of side csr) b (edge_of side b)).pulse
-pulse_in side p second csr b = ap (λ (d : Divided). d.pulse) (clocked_side side p second csr b)
+pulse_in side p second csr b = ap (λ (d : Divided Ticks). d.pulse) (clocked_side side p second csr b)
 
 one_in : (p : Phases) (second : Bool) (csr : ℕ) (b : ClockEvent)
     → (clocked_of p second csr b).one ≡ (transmitter1x p.sixteenths (csr % 16) (clocked_of p second csr b).transmitter).pulse
-one_in p second csr b = ap (λ (d : Sixteenth). d.pulse) (clocked_bit p second csr b)
+one_in p second csr b = ap (λ (d : Divided Pulses). d.pulse) (clocked_bit p second csr b)
 
 pub clocks : Clocks clocked_of
 clocks =
@@ -158,7 +157,7 @@ clocks =
       fixed =
           λ side second csr bs b h.
           pulse_in side (after_events clocked_of restarted second csr bs) second csr b
-          ∙ ap (λ (d : Divided). d.pulse) (side_at _ second (code_of side csr) (ticks_in bs) b (edge_of side b) h (since_restart side second csr bs h));
+          ∙ ap (λ (d : Divided Ticks). d.pulse) (side_at _ second (code_of side csr) (ticks_in bs) b (edge_of side b) h (since_restart side second csr bs h));
       timer = λ side p second csr b e. pulse_in side p second csr b ∙ timed (phase_of side p) second (code_of side csr) b (edge_of side b) e;
       pin = λ side p second csr b h. pulse_in side p second csr b ∙ pinned (phase_of side p) second (code_of side csr) b (edge_of side b) h;
       sixteenth =
@@ -166,6 +165,6 @@ clocks =
           let sent : ℕ = sent_in clocked_of restarted second csr bs in
           let since = rw (zero-add sent) at (after_sent second csr bs restarted 0 h refl) in
           one_in (after_events clocked_of restarted second csr bs) second csr b
-          ∙ ap (λ (d : Sixteenth). d.pulse) (bit_at _ (csr % 16) sent (next clocked_of second csr bs b).transmitter h since);
+          ∙ ap (λ (d : Divided Pulses). d.pulse) (bit_at _ (csr % 16) sent (next clocked_of second csr bs b).transmitter h since);
       each = λ p second csr b h. one_in p second csr b ∙ whole_bit p.sixteenths (csr % 16) (clocked_of p second csr b).transmitter h;
     }

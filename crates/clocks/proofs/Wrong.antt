@@ -5,7 +5,6 @@ use Rattle.format.specs.declared.counts.Pulses.{Pulses}
 use Rattle.format.specs.declared.counts.Ticks.{Ticks}
 use Rattle.format.specs.Pick.{pick}
 use Rattle.dividers.specs.declared.divider.Divided.{Divided}
-use Rattle.dividers.specs.declared.divider.Sixteenth.{Sixteenth}
 use Rattle.dividers.specs.Divider.{divided_of, sixteenth_of}
 use Rattle.dividers.specs.Rates.{period_of}
 use Rattle.clocks.specs.declared.channel.ClockEvent.{ClockEvent}
@@ -58,16 +57,16 @@ no_past h = true≢false (sym (h.comes (ticks 1) 1 (omega arith)))
 
 -- a side, and a way to make the 1X clock, that may be other than ours
 abbrev SideRule : Type 0
-SideRule = Ticks → Bool → ℕ → ClockEvent → Bool → Divided
+SideRule = Ticks → Bool → ℕ → ClockEvent → Bool → Divided Ticks
 
 abbrev BitRule : Type 0
-BitRule = Pulses → ℕ → Bool → Sixteenth
+BitRule = Pulses → ℕ → Bool → Divided Pulses
 
 unfoldable pub clock_by : SideRule → BitRule → Clock
 clock_by side bit_of p second csr b =
-    let receiver : Divided = side p.receiver second (csr / 16) b b.rising in
-    let transmitter : Divided = side p.transmitter second (csr % 16) b b.falling in
-    let bit : Sixteenth = bit_of p.sixteenths (csr % 16) transmitter.pulse in
+    let receiver : Divided Ticks = side p.receiver second (csr / 16) b b.rising in
+    let transmitter : Divided Ticks = side p.transmitter second (csr % 16) b b.falling in
+    let bit : Divided Pulses = bit_of p.sixteenths (csr % 16) transmitter.pulse in
     record {
       phases = record { receiver = receiver.phase; transmitter = transmitter.phase; sixteenths = bit.phase };
       receiver = receiver.pulse;

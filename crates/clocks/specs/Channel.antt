@@ -4,7 +4,6 @@ use Rattle.format.specs.declared.counts.Pulses.{Pulses}
 use Rattle.format.specs.declared.counts.Ticks.{Ticks}
 use Rattle.format.specs.Pick.{pick}
 use Rattle.dividers.specs.declared.divider.Divided.{Divided}
-use Rattle.dividers.specs.declared.divider.Sixteenth.{Sixteenth}
 use Rattle.dividers.specs.Divider.{divided_of, sixteenth_of, room_of, far_off}
 use Rattle.dividers.specs.Rates.{period_of}
 use Rattle.clocks.specs.declared.channel.ClockEvent.{ClockEvent}
@@ -25,19 +24,19 @@ abbrev pub is_sixteen : ℕ → Bool
 is_sixteen code = not (code == 15)
 
 -- a side's divider in an event: only a tick moves it
-unfoldable pub ticked_of : Ticks → Ticks → Bool → Divided
+unfoldable pub ticked_of : Ticks → Ticks → Bool → Divided Ticks
 ticked_of phase period tick = pick tick (divided_of phase period) (record { phase = phase; pulse = false })
 
 -- One side in an event: its divider for codes 0 to 12; "13: the timer's toggle to high"; "14 (16X), 15 (1X)": its pin's
 -- edge.
-unfoldable pub side_of : Ticks → Bool → ℕ → ClockEvent → Bool → Divided
+unfoldable pub side_of : Ticks → Bool → ℕ → ClockEvent → Bool → Divided Ticks
 side_of phase second code b edge =
     pick (nat_lt code 13) (ticked_of phase (period_of second code) b.tick)
     (pick (code == 13) (record { phase = phase; pulse = b.toggled })
     (record { phase = phase; pulse = edge }))
 
 -- the 1X transmitter clock: "every 16th 16X pulse since that phase restarted, or each 1X pulse"
-unfoldable pub transmitter1x : Pulses → ℕ → Bool → Sixteenth
+unfoldable pub transmitter1x : Pulses → ℕ → Bool → Divided Pulses
 transmitter1x phase code pulse =
     pick pulse
     (pick (is_sixteen code) (sixteenth_of phase) (record { phase = phase; pulse = true }))
@@ -46,9 +45,9 @@ transmitter1x phase code pulse =
 -- "CSR bits 7-4 receiver, 3-0 transmitter."; "receiver on a rising edge .. transmitter on a falling edge"
 unfoldable pub clocked_of : Phases → Bool → ℕ → ClockEvent → Clocked
 clocked_of p second csr b =
-    let receiver : Divided = side_of p.receiver second (csr / 16) b b.rising in
-    let transmitter : Divided = side_of p.transmitter second (csr % 16) b b.falling in
-    let bit : Sixteenth = transmitter1x p.sixteenths (csr % 16) transmitter.pulse in
+    let receiver : Divided Ticks = side_of p.receiver second (csr / 16) b b.rising in
+    let transmitter : Divided Ticks = side_of p.transmitter second (csr % 16) b b.falling in
+    let bit : Divided Pulses = transmitter1x p.sixteenths (csr % 16) transmitter.pulse in
     record {
       phases = record { receiver = receiver.phase; transmitter = transmitter.phase; sixteenths = bit.phase };
       receiver = receiver.pulse;

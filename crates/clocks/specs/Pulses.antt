@@ -15,7 +15,7 @@ use Rattle.clocks.specs.Channel.{restarted, is_sixteen}
 
 -- a way to take a tick: the phase and the period
 abbrev pub Divider : Type 0
-Divider = Ticks → Ticks → Divided
+Divider = Ticks → Ticks → Divided Ticks
 
 -- the phase after so many ticks from phase 0
 unfoldable pub phase_after : Divider → Ticks → ℕ → Ticks

@@ -3,7 +3,7 @@ ghost use Rattle.std.specs.Prelude.{◌≡◌};
 ghost use Rattle.clocks.specs.Channel.{restarted, restarted_on_change, is_sixteen, ticked_of, side_of, transmitter1x};
 ghost use Rattle.clocks.specs.Channel.{clocked_of, side_room, side_passed};
 
-use dividers::{Divided, FAR_OFF, Sixteenth, divide, divide_by_16, period_of, room};
+use dividers::{Divided, FAR_OFF, divide, divide_by_16, period_of, room};
 use format::{Pulses, Ticks};
 
 // "13: the timer's toggle to high"
@@ -77,7 +77,7 @@ pub fn is_sixteen(code: u8) -> bool
 }
 
 // A side's divider in an event: only a tick moves it.
-fn tick_side(phase: Ticks, period: Ticks, tick: bool) -> Divided
+fn tick_side(phase: Ticks, period: Ticks, tick: bool) -> Divided<Ticks>
     ensures { result ≡ ticked_of phase period tick }
 {
     if tick {
@@ -90,7 +90,7 @@ fn tick_side(phase: Ticks, period: Ticks, tick: bool) -> Divided
 }
 
 // One side in an event: its divider for codes 0 to 12, the timer for 13, its pin's edge for 14 and 15.
-fn side(phase: Ticks, second: bool, code: u8, event: ClockEvent, edge: bool) -> Divided
+fn side(phase: Ticks, second: bool, code: u8, event: ClockEvent, edge: bool) -> Divided<Ticks>
     ensures { result ≡ side_of phase second code event edge }
 {
     if code < TIMER_TOGGLE {
@@ -109,19 +109,19 @@ fn side(phase: Ticks, second: bool, code: u8, event: ClockEvent, edge: bool) -> 
 }
 
 // The 1X transmitter clock: "every 16th 16X pulse since that phase restarted, or each 1X pulse".
-fn transmitter_1x(phase: Pulses, code: u8, pulse: bool) -> Sixteenth
+fn transmitter_1x(phase: Pulses, code: u8, pulse: bool) -> Divided<Pulses>
     ensures { result ≡ transmitter1x phase code pulse }
 {
     if pulse {
         if is_sixteen(code) {
             return divide_by_16(phase);
         }
-        return Sixteenth {
+        return Divided {
             phase: phase,
             pulse: true,
         };
     }
-    Sixteenth {
+    Divided {
         phase: phase,
         pulse: false,
     }
@@ -164,7 +164,7 @@ pub fn pass_side(phase: Ticks, code: u8, ticks: Ticks) -> Ticks
     ensures { result ≡ side_passed phase code ticks }
 {
     if code < TIMER_TOGGLE {
-        return Ticks(std::num::wrapping_add_u64(phase.0, ticks.0));
+        return Ticks(phase.0.wrapping_add(ticks.0));
     }
     phase
 }

@@ -12,7 +12,7 @@ use Rattle.format.specs.declared.counts.Pulses.{Pulses}
 use Rattle.format.specs.Digits.{bit}
 use Rattle.format.specs.Pick.{pick}
 use Rattle.format.proofs.Laws.Pick.{pick_all}
-use Rattle.dividers.specs.declared.divider.Sixteenth.{Sixteenth}
+use Rattle.dividers.specs.declared.divider.Divided.{Divided}
 use Rattle.dividers.proofs.Laws.Divider.{pulses_of, sixteenth_at}
 use Rattle.clocks.specs.declared.channel.ClockEvent.{ClockEvent}
 use Rattle.clocks.specs.declared.channel.Phases.{Phases}
@@ -71,7 +71,7 @@ stands_same sent r s same p h = rw same.1 (p (rw same.0 at h))
 stands_clocked : (sent : ℕ) (s : Sides.Side) (second : Bool) (b : ClockEvent) → Stands sent s → is_sixteen (s.csr % 16) ≡ true
     → (clocked_of s.phases second s.csr b).phases.sixteenths
     ≡ pulses_of ((sent + bit (clocked_of s.phases second s.csr b).transmitter) % 16)
-stands_clocked sent s second b p h = ap (λ (d : Sixteenth). d.phase) (clocked_bit s.phases second s.csr sent b h (p h))
+stands_clocked sent s second b p h = ap (λ (d : Divided Pulses). d.phase) (clocked_bit s.phases second s.csr sent b h (p h))
 
 -- ---- any event ----
 
@@ -155,9 +155,9 @@ sixteenth ch levels es e other = go e
     go (Write n byte) = refl
     go Acknowledge = refl
     go (Pins x) =
-        ap (λ (d : Sixteenth). d.pulse) (clocked_bit (side_of ch f).phases _ (side_of ch f).csr _ _ code (sent_told ch levels es code))
+        ap (λ (d : Divided Pulses). d.pulse) (clocked_bit (side_of ch f).phases _ (side_of ch f).csr _ _ code (sent_told ch levels es code))
     go Tick =
-        ap (λ (d : Sixteenth). d.pulse) (clocked_bit (side_of ch f).phases _ (side_of ch f).csr _ _ code (sent_told ch levels es code))
+        ap (λ (d : Divided Pulses). d.pulse) (clocked_bit (side_of ch f).phases _ (side_of ch f).csr _ _ code (sent_told ch levels es code))
 
 each : (ch : Channel) (levels : ℕ) (es : List Event) (e : Event) → code_after transmits ch es ≡ 15
     → one_after ch levels es e ≡ pulsed_after transmits ch levels es e

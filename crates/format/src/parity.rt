@@ -7,6 +7,7 @@ use crate::counts::Bits;
 use crate::format::Format;
 
 // "parity 00 with, 01 forced, 10 none"
+// Kept: the kinds are numbers: `Format`, which has one, stands inside `Device` and crosses to C.
 const WITH: u8 = 0;
 
 const NONE: u8 = 2;
@@ -26,7 +27,7 @@ pub fn cut(byte: u8, width: Bits) -> u8
 fn odd_ones(byte: u8) -> bool
     ensures { result ≡ odd_ones (bits_of 8 byte) }
 {
-    u32::count_ones(byte as u32) % 2 == 1
+    byte.count_ones() % 2 == 1
 }
 
 // "parity if any"

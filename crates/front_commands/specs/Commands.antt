@@ -13,11 +13,25 @@ use Rattle.transmitter.specs.declared.transmitter.Input.TheVariants as Transmitt
 use Rattle.transmitter.specs.Transmitter.{after_input}
 use Rattle.front_side.specs.declared.side.Side.{Side}
 use Rattle.front_side.specs.Side.{with_enabled, with_transmitter, with_echo, pointed_at}
+use Rattle.front_commands.specs.declared.commands.Order.{Order}
+use Rattle.front_commands.specs.declared.commands.Order.TheVariants.{Nothing, PointAtMr1, ResetReceiver, ResetTransmitter}
+use Rattle.front_commands.specs.declared.commands.Order.TheVariants.{ClearErrors, ClearBreakChange, StartBreak, StopBreak}
 
 -- ---- bits 6-4 ----
 
 abbrev pub effect_bits : ℕ → ℕ
 effect_bits byte = byte / 16 % 8
+
+-- the bits that stand for what they ask for
+abbrev pub bits_of : Order → ℕ
+bits_of Nothing = 0
+bits_of PointAtMr1 = 1
+bits_of ResetReceiver = 2
+bits_of ResetTransmitter = 3
+bits_of ClearErrors = 4
+bits_of ClearBreakChange = 5
+bits_of StartBreak = 6
+bits_of StopBreak = 7
 
 -- "3 reset transmitter (disabled, all dropped, TxD high)"; "6, 7 start, stop break"
 unfoldable pub transmitter_effect : ℕ → Input

@@ -1,2 +1,3 @@
 -- The laws of a channel's modes. Assumes nothing.
+pub mod Modes
 pub mod Ranges

@@ -11,12 +11,21 @@ use Rattle.transmitter.specs.declared.transmitter.Input.TheVariants.{ModeChange}
 use Rattle.transmitter.specs.Status.{status_of}
 use Rattle.transmitter.specs.Transmitter.{after_input}
 use Rattle.front_side.specs.declared.side.Side.{Side}
+use Rattle.front_modes.specs.declared.modes.ChannelMode.{ChannelMode}
+use Rattle.front_modes.specs.declared.modes.ChannelMode.TheVariants.{Normal, Echo, Local, Remote}
 use Rattle.front_side.specs.Side.{with_transmitter, with_echo, mode_written}
 
 -- ---- the modes ----
 
 abbrev pub channel_mode : ℕ → ℕ
 channel_mode mr2 = mr2 / 64 % 4
+
+-- the bits that stand for a mode
+abbrev pub bits_of : ChannelMode → ℕ
+bits_of Normal = 0
+bits_of Echo = 1
+bits_of Local = 2
+bits_of Remote = 3
 
 -- "Local loopback: the receiver takes the transmitter's level and its clock, TxD stays high, RxD is ignored"
 abbrev pub local_mode : ℕ → Bool

@@ -1,46 +1,56 @@
 // "MR2 bits 7-6": 00 normal, 01 automatic echo, 10 local loopback, 11 remote loopback (source 004, MR2).
 ghost use Rattle.std.specs.Prelude.{◌≡◌};
-ghost use Rattle.front_modes.specs.Modes.{channel_mode, local_mode, remote_mode, echo_mode, txd_shown, sender_shown};
-ghost use Rattle.front_modes.specs.Modes.{changes_mode, mode_set, mode_feed};
+ghost use Rattle.front_modes.specs.Modes.{bits_of, channel_mode, local_mode, remote_mode, echo_mode, txd_shown};
+ghost use Rattle.front_modes.specs.Modes.{sender_shown, changes_mode, mode_set, mode_feed};
 
 use feed::{Effect, Enabling, Feed};
 use front_side::{Side, write_mode};
 use transmitter::{Input, TransmitterStatus, step_transmitter, transmitter_status};
 
-const LOCAL: u8 = 2;
+#[derive(Clone, Copy, PartialEq, Eq)]
+enum ChannelMode {
+    Normal,
+    Echo,
+    Local,
+    Remote,
+}
 
-const REMOTE: u8 = 3;
-
-fn channel_mode(mr2: u8) -> u8
-    ensures { result ≡ channel_mode mr2 }
+fn channel_mode(mr2: u8) -> ChannelMode
+    ensures { bits_of result ≡ channel_mode mr2 }
 {
-    mr2 / 64 % 4
+    match mr2 / 64 % 4 {
+        0 => ChannelMode::Normal,
+        1 => ChannelMode::Echo,
+        2 => ChannelMode::Local,
+        _ => ChannelMode::Remote,
+    }
 }
 
 // "Local loopback: the receiver takes the transmitter's level and its clock, TxD stays high, RxD is ignored"
 pub fn is_local(mr2: u8) -> bool
     ensures { result ≡ local_mode mr2 }
 {
-    channel_mode(mr2) == LOCAL
+    channel_mode(mr2) == ChannelMode::Local
 }
 
 // "Remote loopback: the same echo, and no character is put together."
 pub fn is_remote(mr2: u8) -> bool
     ensures { result ≡ remote_mode mr2 }
 {
-    channel_mode(mr2) == REMOTE
+    channel_mode(mr2) == ChannelMode::Remote
 }
 
 // "Automatic echo: no character or break starts": 01, and 11 has "the same echo".
 pub fn echoes(mr2: u8) -> bool
     ensures { result ≡ echo_mode mr2 }
 {
-    channel_mode(mr2) % 2 == 1
+    matches!(channel_mode(mr2), ChannelMode::Echo | ChannelMode::Remote)
 }
 
-// What the pin TxD shows, and here alone, of MR2, the receiver's enable, the echoed level and the transmitter's (they are
-// passed one by one, for a side passed whole is copied): "TxD stays high"; "at each pulse of an enabled receiver TxD takes the
-// sampled level (high while disabled)"; in normal mode the transmitter's level.
+// What the pin TxD shows, and here alone, of MR2, the receiver's enable, the echoed level and the transmitter's: "TxD stays
+// high"; "at each pulse of an enabled receiver TxD takes the sampled level (high while disabled)"; in normal mode the
+// transmitter's level.
+// Kept: the four are passed one by one for speed, for a side that is passed whole is copied.
 pub fn show_txd(mr2: u8, enabled: bool, echo: bool, level: bool) -> bool
     ensures { result ≡ txd_shown mr2 enabled echo level }
 {

@@ -35,7 +35,7 @@ pub fn reset_bits(outputs: Outputs, byte: u8) -> Outputs
     ensures { result ≡ bits_reset outputs byte }
 {
     Outputs {
-        bits: outputs.bits & (255 - byte),
+        bits: outputs.bits & !byte,
         opcr: outputs.opcr,
     }
 }
@@ -83,7 +83,7 @@ pub fn op_levels(outputs: Outputs, isr: u8, timer: bool) -> u8
     ensures { result ≡ op_levels outputs isr timer }
 {
     if outputs.opcr == 0 {
-        return 255 - outputs.bits;
+        return !outputs.bits;
     }
     let driven = byte_of(
         driven_by(outputs, isr, 7, 4),
@@ -95,5 +95,5 @@ pub fn op_levels(outputs: Outputs, isr: u8, timer: bool) -> u8
         has_bit(outputs.bits, 1),
         has_bit(outputs.bits, 0),
     );
-    255 - driven
+    !driven
 }

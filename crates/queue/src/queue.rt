@@ -62,23 +62,13 @@ pub fn put(queue: Queue, character: Character) -> Queue
     ensures { result ≡ put_of queue character }
 {
     let mut q = queue;
-    if queue.count == 0 {
-        q.count = 1;
-        q.first = character;
-        return q;
+    match queue.count {
+        0 => q.first = character,
+        1 => q.second = character,
+        2 => q.third = character,
+        _ => q.waiting = character,
     }
-    if queue.count == 1 {
-        q.count = 2;
-        q.second = character;
-        return q;
-    }
-    if queue.count == 2 {
-        q.count = 3;
-        q.third = character;
-        return q;
-    }
-    q.count = 4;
-    q.waiting = character;
+    q.count = queue.count.min(3) + 1;
     q
 }
 

@@ -10,10 +10,7 @@ use format::{Bits, Format};
 fn data_width(format: Format) -> Bits
     ensures { result ≡ data_width_of format }
 {
-    if format.width.0 < 8 {
-        return format.width;
-    }
-    Bits(8)
+    Bits(format.width.0.min(8))
 }
 
 // The samples before the first stop sample: the data bits, and the parity bit if any.
@@ -47,13 +44,9 @@ fn data_of(format: Format, value: u16) -> u8
 fn parity_wrong(format: Format, value: u16) -> bool
     ensures { result ≡ parity_wrong_of format value }
 {
-    let checked = format::has_parity(format);
-    if checked {
+    if format::has_parity(format) {
         let right = format::parity_bit(format, data_of(format, value));
-        if value / data_weight(format) % 2 == 1 {
-            return !right;
-        }
-        return right;
+        return (value / data_weight(format) % 2 == 1) != right;
     }
     false
 }

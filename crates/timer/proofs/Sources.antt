@@ -7,7 +7,6 @@ use Rattle.format.specs.Digits.{bit}
 use Rattle.format.specs.Pick.{pick}
 use Rattle.format.proofs.Laws.Pick.{pick_all}
 use Rattle.dividers.specs.declared.divider.Divided.{Divided}
-use Rattle.dividers.specs.declared.divider.Sixteenth.{Sixteenth}
 use Rattle.dividers.specs.Divider.{divided_of, sixteenth_of}
 use Rattle.dividers.proofs.Laws.Divider.{ticks_of, pulses_of, divided_at, sixteenth_at}
 use Rattle.timer_state.specs.declared.counting.Counted.{Counted}
@@ -78,7 +77,7 @@ ticked : (t : Timer) (mode m : ℕ) → t.ticks.0 ≡ m % 16
     → ticked_by t mode ≡ pulsed_by (with_phases t (ticks_of (suc m % 16)) t.edges) mode (pulse_in mode (a_tick (eqb (suc m % 16) 0)))
 unfolding ticked_by
 ticked t mode m e =
-    ap (λ (d : Divided). pulsed_by (with_phases t d.phase t.edges) mode (tick_pulses mode d.pulse))
+    ap (λ (d : Divided Ticks). pulsed_by (with_phases t d.phase t.edges) mode (tick_pulses mode d.pulse))
     (ap (λ (phase : Ticks). divided_of phase (ticks_of 16)) (ticks_at t m e) ∙ divided_at (ticks_of 16) m (omega arith))
     ∙ ap (pulsed_by _ mode) (modes.tick mode _)
 
@@ -86,7 +85,7 @@ edged : (t : Timer) (mode m : ℕ) → t.edges.0 ≡ m % 16
     → edged_by t mode ≡ pulsed_by (with_phases t t.ticks (pulses_of (suc m % 16))) mode (pulse_in mode (an_edge (eqb (suc m % 16) 0)))
 unfolding edged_by
 edged t mode m e =
-    ap (λ (d : Sixteenth). pulsed_by (with_phases t t.ticks d.phase) mode (edge_pulses mode d.pulse))
+    ap (λ (d : Divided Pulses). pulsed_by (with_phases t t.ticks d.phase) mode (edge_pulses mode d.pulse))
     (ap sixteenth_of (edges_at t m e) ∙ sixteenth_at m)
     ∙ ap (pulsed_by _ mode) (modes.edge mode _)
 

@@ -18,7 +18,7 @@ fn runs(timer: Timer, mode: u8) -> bool
 fn count_on(count: u16, pulses: u64) -> u16
     ensures { result ≡ counted_by count pulses }
 {
-    std::num::wrapping_sub_u16(count, (pulses % 65536) as u16)
+    count.wrapping_sub((pulses % 65536) as u16)
 }
 
 // The ticks that pass before the 16th that is one pulse too many.
@@ -63,7 +63,7 @@ fn pulses_in(timer: Timer, mode: u8, ticks: Ticks) -> u64
         return ticks.0;
     }
     if tick_pulses(mode, true) {
-        return std::num::wrapping_add_u64(timer.ticks.0, ticks.0) / 16;
+        return timer.ticks.0.wrapping_add(ticks.0) / 16;
     }
     0
 }
@@ -72,7 +72,7 @@ fn pulses_in(timer: Timer, mode: u8, ticks: Ticks) -> u64
 pub fn pass_timer(timer: Timer, mode: u8, ticks: Ticks) -> Timer
     ensures { result ≡ timer_passed timer mode ticks }
 {
-    let phase = std::num::wrapping_add_u64(timer.ticks.0, ticks.0) % 16;
+    let phase = timer.ticks.0.wrapping_add(ticks.0) % 16;
     let mut t = timer;
     t.ticks.0 = phase;
     if runs(timer, mode) {

@@ -1,12 +1,13 @@
 // The counter/timer: its modes, which clock pulses it in each, and what a pulse does to it.
 ghost use Rattle.std.specs.Prelude.{◌≡◌};
-ghost use Rattle.timer_state.specs.Counting.{fresh_timer, mode_of, is_timer, counted_down, counter_pulsed};
+ghost use Rattle.timer_state.specs.Counting.{fresh_timer, mode_of, is_timer, counter_pulsed};
 ghost use Rattle.timer_state.specs.Counting.{timer_pulsed, pulsed_by, tick_pulses, edge_pulses, transmitter_pulses};
 
 use format::{Pulses, Ticks};
 
 // "ACR 6-4: 0-3 counter on rising IP2, TxCA 1X, TxCB 1X, ticks/16; 4-7 timer on rising IP2, IP2/16,
 // ticks, ticks/16."
+// Kept: numbers, for `mode` is a parameter of routines that docs/ list, and takes those above 7 too.
 const COUNTER_ON_IP2: u8 = 0;
 
 const COUNTER_ON_TXCA: u8 = 1;
@@ -77,23 +78,13 @@ pub fn is_timer(mode: u8) -> bool
     TIMER_ON_IP2 <= mode
 }
 
-// "Each pulse takes 1 from the count, modulo 65,536"
-fn count_down(count: u16) -> u16
-    ensures { result ≡ counted_down count }
-{
-    if count == 0 {
-        return 65535;
-    }
-    count - 1
-}
-
-// "terminal sets ISR bit 3, counting goes on"
+// "Each pulse takes 1 from the count, modulo 65,536; .. terminal sets ISR bit 3, counting goes on"
 fn pulse_counter(timer: Timer) -> Timer
     ensures { result ≡ counter_pulsed timer }
 {
     let mut t = timer;
     if timer.running {
-        let count = count_down(timer.count);
+        let count = timer.count.wrapping_sub(1);
         t.count = count;
         t.ready = timer.ready | (count == 0);
         return t;
@@ -101,12 +92,12 @@ fn pulse_counter(timer: Timer) -> Timer
     t
 }
 
-// "terminal toggles and reloads; a toggle to high sets ISR bit 3"
+// "Each pulse takes 1 from the count, modulo 65,536; .. terminal toggles and reloads; a toggle to high sets ISR bit 3"
 fn pulse_timer(timer: Timer) -> Counted
     ensures { result ≡ timer_pulsed timer }
 {
     let mut t = timer;
-    let count = count_down(timer.count);
+    let count = timer.count.wrapping_sub(1);
     if count == 0 {
         let high = !timer.output;
         t.count = timer.preload;

@@ -22,7 +22,7 @@ plain_tick = record { tick = true; toggled = false; rising = false; falling = fa
 -- ---- one clock ----
 
 -- a clock without a pulse
-abbrev at_rest : Ticks → Divided
+abbrev at_rest : Ticks → Divided Ticks
 at_rest phase = record { phase = phase; pulse = false }
 
 -- a side of a code that has a divider, and of one that has none
@@ -49,7 +49,7 @@ divider_passes phase second code e h =
 other_passes : (phase : Ticks) (second : Bool) (code : ℕ) → ltb code 13 ≡ false → SidePasses phase second code
 unfolding side_of side_passed
 other_passes phase second code e =
-    pick_no _ _ _ e ∙ pick_all (λ (d : Divided). d ≡ at_rest phase) (eqb code 13) _ _ refl refl ∙ ap at_rest (sym (pick_no (ltb code 13) _ phase e))
+    pick_no _ _ _ e ∙ pick_all (λ (d : Divided Ticks). d ≡ at_rest phase) (eqb code 13) _ _ refl refl ∙ ap at_rest (sym (pick_no (ltb code 13) _ phase e))
 
 pub side_passes : (phase : Ticks) (second : Bool) (code : ℕ) → 0 < (side_room phase second code).0 → SidePasses phase second code
 side_passes phase second code h = go (ltb code 13) refl

@@ -6,7 +6,6 @@ use Rattle.format.specs.declared.counts.Pulses.{Pulses}
 use Rattle.format.specs.declared.counts.Ticks.{Ticks}
 use Rattle.format.proofs.Laws.Pick.{pick_all, pick_known}
 use Rattle.dividers.specs.declared.divider.Divided.{Divided}
-use Rattle.dividers.specs.declared.divider.Sixteenth.{Sixteenth}
 use Rattle.dividers.specs.Rates.{period_of}
 use Rattle.dividers.proofs.Laws.Ranges.{divided_most, sixteenth_most}
 use Rattle.dividers.proofs.Laws.Rates.{period_between}
@@ -26,7 +25,7 @@ side_most phase second code b edge h =
     pick_all Most b.tick _ _ (divided_most phase (period_of second code) 4607 most) h)
     (pick_all Most (eqb code 13) _ _ h h)
   where
-    Most : Divided → Type 0
+    Most : Divided Ticks → Type 0
     Most d = d.phase.0 ≤ 4607
 
 bit_most : (phase : Pulses) (code : ℕ) (pulse : Bool) → phase.0 ≤ 15 → (transmitter1x phase code pulse).phase.0 ≤ 15
@@ -34,7 +33,7 @@ unfolding transmitter1x
 bit_most phase code pulse h =
     pick_all Most pulse _ _ (pick_all Most (is_sixteen code) _ _ (sixteenth_most phase) h) h
   where
-    Most : Sixteenth → Type 0
+    Most : Divided Pulses → Type 0
     Most d = d.phase.0 ≤ 15
 
 -- the ranges as inequalities

@@ -86,14 +86,14 @@ stands_clocked : (acr ticks : ℕ) (s : Sides.Side) (b : ClockEvent) → b.tick 
     → phase_of side (clocked_of s.phases (eqb (acr / 128) 1) s.csr b).phases
     ≡ ticks_of (ticks % (period_of (eqb (acr / 128) 1) (code_of side s.csr)).0)
 stands_clocked acr ticks s b t p side h =
-    ap (λ (d : Divided). d.phase) (clocked_still side s.phases (eqb (acr / 128) 1) s.csr b h t) ∙ p side h
+    ap (λ (d : Divided Ticks). d.phase) (clocked_still side s.phases (eqb (acr / 128) 1) s.csr b h t) ∙ p side h
 
 stands_ticked : (acr ticks : ℕ) (s : Sides.Side) (b : ClockEvent) → b.tick ≡ true → Stands acr ticks s
     → (side : Side) → code_of side s.csr < 13
     → phase_of side (clocked_of s.phases (eqb (acr / 128) 1) s.csr b).phases
     ≡ ticks_of (suc ticks % (period_of (eqb (acr / 128) 1) (code_of side s.csr)).0)
 stands_ticked acr ticks s b t p side h =
-    ap (λ (d : Divided). d.phase) (clocked_tick side s.phases (eqb (acr / 128) 1) s.csr ticks b h t (p side h))
+    ap (λ (d : Divided Ticks). d.phase) (clocked_tick side s.phases (eqb (acr / 128) 1) s.csr ticks b h t (p side h))
 
 -- ---- a write ----
 
@@ -252,7 +252,7 @@ fixed_pulse side ch levels es e h = go e
     here : Told ch (over (restarts_then ch) (record { acr = 0; ticks = 0 }) es) f
     here = told_over ch _ (front_at levels) es (record { acr = refl; phases = stands_restarted 0 (side_of ch (front_at levels)) (fresh ch) })
 
-    pulse : Divided → Bool
+    pulse : Divided Ticks → Bool
     pulse d = d.pulse
 
     go : (e : Event)

@@ -20,11 +20,11 @@ pub counted_one : (count : ℕ) → counted_by count 1 ≡ counted_down count
 unfolding counted_by pick
 counted_one count = refl
 
--- the number that goes back to the count when the pulses are added
-pub counted_back : (r count pulses : ℕ) → r < 65536 → (r + pulses % 65536) % 2 ^ 16 ≡ count → r ≡ counted_by count pulses
+-- the count less so many pulses, modulo 65,536
+pub counted_back : (count pulses : ℕ) → count < 65536 → (count + (65536 - pulses % 65536)) % 65536 ≡ counted_by count pulses
 unfolding counted_by pick
-counted_back r count zero l h = omega (arith, h)
-counted_back r count (suc n) l h = rw (eqb-suc-zero n) (omega (arith, h))
+counted_back count zero l = omega arith
+counted_back count (suc n) l = rw (eqb-suc-zero n) (omega arith)
 
 -- ---- a tick that is not terminal ----
 

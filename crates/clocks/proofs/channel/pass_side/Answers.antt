@@ -5,7 +5,7 @@ use Rattle.clocks.proofs.channel.pass_side.Goals as goal
 
 pub returns-then-code-lt-TIMER_TOGGLE : goal.returns-then-code-lt-TIMER_TOGGLE
 unfolding side_passed
-returns-then-code-lt-TIMER_TOGGLE c = simp c.wrapping_add_u64.ensures.value (search steps)
+returns-then-code-lt-TIMER_TOGGLE c = search steps
 
 pub returns : goal.returns
 unfolding side_passed

@@ -1,20 +1,20 @@
--- `receiver_effect` meets its contract: its tests are the definition's. Assumes nothing.
-use Rattle.format.proofs.Laws.{steps}
+-- `receiver_effect` meets its contract: each arm is the definition's, and the others ask for nothing here. Assumes nothing.
+use Rattle.format.specs.Pick.{pick}
 use Rattle.front_commands.specs.Commands.{receiver_effect}
+use Rattle.front_commands.proofs.Laws.Orders.{no_receivers}
 use Rattle.front_commands.proofs.commands.receiver_effect.Goals as goal
 
-pub returns-then-bits-eq2 : goal.returns-then-bits-eq2
-unfolding receiver_effect
-returns-then-bits-eq2 c = search steps
+pub returns-in-ResetReceiver : goal.returns-in-ResetReceiver
+unfolding receiver_effect pick
+returns-in-ResetReceiver c = rw c.in-ResetReceiver.is
 
-pub returns-then-bits-eq4 : goal.returns-then-bits-eq4
-unfolding receiver_effect
-returns-then-bits-eq4 c = search steps
+pub returns-in-ClearErrors : goal.returns-in-ClearErrors
+unfolding receiver_effect pick
+returns-in-ClearErrors c = rw c.in-ClearErrors.is
 
-pub returns-then-bits-eq5 : goal.returns-then-bits-eq5
-unfolding receiver_effect
-returns-then-bits-eq5 c = search steps
+pub returns-in-ClearBreakChange : goal.returns-in-ClearBreakChange
+unfolding receiver_effect pick
+returns-in-ClearBreakChange c = rw c.in-ClearBreakChange.is
 
-pub returns : goal.returns
-unfolding receiver_effect
-returns c = search steps
+pub returns-in_default : goal.returns-in_default
+returns-in_default c = no_receivers _ c.in_default.not-ResetReceiver c.in_default.not-ClearErrors c.in_default.not-ClearBreakChange

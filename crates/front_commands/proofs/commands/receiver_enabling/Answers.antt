@@ -1,20 +1,21 @@
--- `receiver_enabling` meets its contract: its tests are the definition's. Assumes nothing.
+-- `receiver_enabling` meets its contract: its arms are the definition's. Assumes nothing.
 use Rattle.format.proofs.Laws.{steps}
+use Rattle.format.specs.Pick.{pick}
 use Rattle.front_commands.specs.Commands.{receiver_enabling}
 use Rattle.front_commands.proofs.commands.receiver_enabling.Goals as goal
 
-pub returns-then-enabled : goal.returns-then-enabled
+pub returns-in-1 : goal.returns-in-1
 unfolding receiver_enabling
-returns-then-enabled c = search steps
+returns-in-1 c = search steps
 
-pub returns-then-bits-eq1 : goal.returns-then-bits-eq1
+pub returns-in-1-2 : goal.returns-in-1-2
 unfolding receiver_enabling
-returns-then-bits-eq1 c = search steps
+returns-in-1-2 c = search steps
 
-pub returns-then-bits-eq2 : goal.returns-then-bits-eq2
-unfolding receiver_enabling
-returns-then-bits-eq2 c = search steps
+pub returns-in-2 : goal.returns-in-2
+unfolding receiver_enabling pick
+returns-in-2 c = rw c.in-2.is
 
-pub returns : goal.returns
+pub returns-in_default : goal.returns-in_default
 unfolding receiver_enabling
-returns c = search steps
+returns-in_default c = search steps

@@ -1,20 +1,20 @@
--- `transmitter_effect` meets its contract: its tests are the definition's. Assumes nothing.
-use Rattle.format.proofs.Laws.{steps}
+-- `transmitter_effect` meets its contract: each arm is the definition's, and the others ask for nothing here. Assumes nothing.
+use Rattle.format.specs.Pick.{pick}
 use Rattle.front_commands.specs.Commands.{transmitter_effect}
+use Rattle.front_commands.proofs.Laws.Orders.{no_transmitters}
 use Rattle.front_commands.proofs.commands.transmitter_effect.Goals as goal
 
-pub returns-then-bits-eq3 : goal.returns-then-bits-eq3
-unfolding transmitter_effect
-returns-then-bits-eq3 c = search steps
+pub returns-in-ResetTransmitter : goal.returns-in-ResetTransmitter
+unfolding transmitter_effect pick
+returns-in-ResetTransmitter c = rw c.in-ResetTransmitter.is
 
-pub returns-then-bits-eq6 : goal.returns-then-bits-eq6
-unfolding transmitter_effect
-returns-then-bits-eq6 c = search steps
+pub returns-in-StartBreak : goal.returns-in-StartBreak
+unfolding transmitter_effect pick
+returns-in-StartBreak c = rw c.in-StartBreak.is
 
-pub returns-then-bits-eq7 : goal.returns-then-bits-eq7
-unfolding transmitter_effect
-returns-then-bits-eq7 c = search steps
+pub returns-in-StopBreak : goal.returns-in-StopBreak
+unfolding transmitter_effect pick
+returns-in-StopBreak c = rw c.in-StopBreak.is
 
-pub returns : goal.returns
-unfolding transmitter_effect
-returns c = search steps
+pub returns-in_default : goal.returns-in_default
+returns-in_default c = no_transmitters _ c.in_default.not-ResetTransmitter c.in_default.not-StartBreak c.in_default.not-StopBreak

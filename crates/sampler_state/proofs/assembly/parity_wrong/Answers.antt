@@ -1,20 +1,26 @@
 -- `parity_wrong` meets its contract: each way through the tests is the definition's; a power of two is no zero to divide by. Assumes nothing.
+use mathlib.Core.Path.{◌≡◌, refl}
+use mathlib.Core.Bool.{Bool, true, false, not, beq}
 use lib.Pow.{pow_pos}
+use Rattle.format.specs.Pick.{pick}
 use Rattle.format.proofs.Laws.{steps}
 use Rattle.sampler_state.specs.Assembly.{parity_wrong_of}
 use Rattle.sampler_state.proofs.assembly.parity_wrong.Goals as goal
 
-pub nonzero_div-value : goal.nonzero_div-value
-nonzero_div-value c = rw c.data_weight.ensures (pow_pos _)
+differs : (level right : Bool) → not (beq level right) ≡ pick level (not right) right
+unfolding pick
+differs true true = refl
+differs true false = refl
+differs false true = refl
+differs false false = refl
 
-pub returns-then-value-data_weight-eq1 : goal.returns-then-value-data_weight-eq1
-unfolding parity_wrong_of
-returns-then-value-data_weight-eq1 c = simp (← c.data_weight.ensures, c.parity_bit-right.ensures, c.data_of.ensures, ← c.has_parity-checked.ensures) (search steps)
+pub nonzero_div-result : goal.nonzero_div-result
+nonzero_div-result c = rw c.data_weight.ensures (pow_pos _)
 
-pub returns-then-checked : goal.returns-then-checked
+pub returns-then-has_parity : goal.returns-then-has_parity
 unfolding parity_wrong_of
-returns-then-checked c = simp (← c.data_weight.ensures, c.parity_bit-right.ensures, c.data_of.ensures, ← c.has_parity-checked.ensures) (search steps)
+returns-then-has_parity c = simp (differs, ← c.data_weight.ensures, c.parity_bit-right.ensures, c.data_of.ensures, ← c.has_parity.ensures) (search steps)
 
 pub returns : goal.returns
 unfolding parity_wrong_of
-returns c = simp (← c.has_parity-checked.ensures) (search steps)
+returns c = simp (← c.has_parity.ensures) (search steps)

@@ -6,16 +6,8 @@ use Rattle.timer.proofs.passing.pass_timer.Goals as goal
 pub returns-then-runs : goal.returns-then-runs
 unfolding timer_passed
 returns-then-runs c =
-    simp (
-      c.count_on-count.ensures,
-      c.pulses_in.ensures,
-      ← c.runs.ensures,
-      c.wrapping_add_u64-phase.ensures.value,
-    )
-    (search steps)
+    simp (c.count_on-count.ensures, c.pulses_in.ensures, ← c.runs.ensures) (search steps)
 
 pub returns : goal.returns
 unfolding timer_passed
-returns c =
-    simp (← c.runs.ensures, c.wrapping_add_u64-phase.ensures.value)
-    (search steps)
+returns c = simp (← c.runs.ensures) (search steps)

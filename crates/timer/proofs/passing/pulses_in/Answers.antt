@@ -9,9 +9,7 @@ returns-then-tick_pulses c = simp (← c.tick_pulses.ensures) (search steps)
 
 pub returns-then-tick_pulses-2 : goal.returns-then-tick_pulses-2
 unfolding pulses_in
-returns-then-tick_pulses-2 c =
-    simp (c.wrapping_add_u64.ensures.value, ← c.tick_pulses-2.ensures, ← c.tick_pulses.ensures)
-    (search steps)
+returns-then-tick_pulses-2 c = simp (← c.tick_pulses-2.ensures, ← c.tick_pulses.ensures) (search steps)
 
 pub returns : goal.returns
 unfolding pulses_in

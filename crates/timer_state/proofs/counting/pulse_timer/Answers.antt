@@ -1,12 +1,12 @@
--- `pulse_timer` meets its contract: each way through the tests is the definition's, with the callee's answer. Assumes nothing.
+-- `pulse_timer` meets its contract: each way through the tests is the definition's. Assumes nothing.
 use Rattle.format.proofs.Laws.{steps}
 use Rattle.timer_state.specs.Counting.{timer_pulsed}
 use Rattle.timer_state.proofs.counting.pulse_timer.Goals as goal
 
 pub returns-then-count-eq0 : goal.returns-then-count-eq0
 unfolding timer_pulsed
-returns-then-count-eq0 c = simp (← c.count_down-count.ensures) (search steps)
+returns-then-count-eq0 c = search steps
 
 pub returns : goal.returns
 unfolding timer_pulsed
-returns c = simp (← c.count_down-count.ensures) (search steps)
+returns c = search steps
