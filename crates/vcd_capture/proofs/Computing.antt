@@ -10,18 +10,21 @@ use Rattle.sampler.specs.Lines.{after_lines, arrivals}
 use Rattle.sampler.proofs.Computing as Sampling
 use Rattle.vcd_text.specs.Lines.{level_at}
 use Rattle.vcd_read.proofs.Computing.{reading, dump}
+use Rattle.std.specs.Prelude.{Result}
+use Rattle.std.specs.Result.{result_unwrap_or}
+use Rattle.refusal.specs.declared.refusal.Refusal.{Refusal}
 use Rattle.vcd_capture.specs.declared.capturing.Asked.{Asked}
 use Rattle.vcd_capture.specs.declared.capturing.Captured.{Captured}
 use Rattle.vcd_capture.specs.Logs.{marks_byte, character_bytes, log_bytes}
 use Rattle.vcd_capture.specs.Ear.{ticks_before, pulses_before, ear_until, heard_until, ear_value, ear_said, heard_said}
 use Rattle.vcd_capture.specs.Ear.{heard_from}
-use Rattle.vcd_capture.specs.Capture.{setting_of, end_after, capture_refusal, captured_of, log_after, handed_of}
+use Rattle.vcd_capture.specs.Capture.{setting_of, end_after, log_in, text_refusal, capture_refusal, number_of, captured_by, captured_of, log_after, handed_of}
 use Rattle.vcd_capture.specs.Waves.{level_pulses}
 
 unfoldable pub capturing : Bool
 unfolding reading Sampling.computing period_of after_lines arrivals level_at marks_byte character_bytes log_bytes ticks_before
-    pulses_before ear_until heard_until ear_value ear_said heard_said heard_from setting_of end_after capture_refusal captured_of
-    log_after handed_of level_pulses
+    pulses_before ear_until heard_until ear_value ear_said heard_said heard_from setting_of end_after log_in
+    text_refusal capture_refusal captured_by captured_of log_after handed_of level_pulses
 capturing = true
 
 -- MR1 16: 5 data bits, no parity. Code 12 with ACR bit 7 = 0: 38,400 baud, a pulse each 6 ticks; 26,042 ns a bit
@@ -60,6 +63,12 @@ wire_b = bytes_of "RxDB"
 abbrev pub handed : Asked → List String → Bool → List ℕ
 handed q body channel_b = handed_of q (text_of body) wire_a wire_b 100 100 channel_b
 
--- the answer where the logs have so much room
-abbrev pub answer : Asked → List String → ℕ → ℕ → Captured
+-- the answer where the logs have so much room, its number, and what is filled
+abbrev pub answer : Asked → List String → ℕ → ℕ → Result Captured Refusal
 answer q body room_a room_b = captured_of q (text_of body) wire_a wire_b room_a room_b
+
+abbrev pub number : Asked → List String → ℕ → ℕ → ℕ
+number q body room_a room_b = number_of q (text_of body) wire_a wire_b room_a room_b
+
+abbrev pub filled : Asked → List String → ℕ → ℕ → Captured
+filled q body room_a room_b = result_unwrap_or (answer q body room_a room_b) (record { length_a = 0; length_b = 0 })

@@ -10,17 +10,20 @@ use Rattle.feed.specs.declared.feed.Setting.{Setting}
 use Rattle.sampler.specs.Lines as Hearing
 use Rattle.vcd_text.specs.Time.{time_of}
 use Rattle.vcd_text.specs.Lines.Line.{Time, Value}
-use Rattle.std.specs.Prelude.{None, Some}
+use Rattle.std.specs.Prelude.{None, Some, Result, Ok, Err}
 use Rattle.vcd_read.specs.declared.checking.Times.{Times}
 use Rattle.vcd_read.specs.declared.scanning.Scanned.{Scanned}
+use Rattle.refusal.specs.declared.refusal.Refusal.{Refusal}
+use Rattle.refusal.specs.declared.refusal.Refusal.TheVariants.{SpaceShort, TextOutside, TimeNotLater}
+use Rattle.refusal.specs.Refusal.{answer_number}
 use Rattle.vcd_capture.specs.declared.capturing.Asked.{Asked}
 use Rattle.vcd_capture.specs.declared.capturing.Captured.{Captured}
 use Rattle.vcd_capture.specs.Logs.{marks_byte, log_bytes}
 use Rattle.vcd_capture.specs.Ear.{ticks_before, pulses_before}
-use Rattle.vcd_capture.specs.Capture.{setting_of, end_of, capture_refusal, captured_of, CaptureMet, handed_of}
+use Rattle.vcd_capture.specs.Capture.{setting_of, end_of, capture_refusal, number_of, CaptureMet, handed_of}
 use Rattle.vcd_capture.specs.Waves.{pulses_over}
 use Rattle.vcd_capture.proofs.Computing.{capturing, fast, bits, both, twice, text_of, wire_a, wire_b}
-use Rattle.vcd_capture.proofs.Computing.{late, handed, answer}
+use Rattle.vcd_capture.proofs.Computing.{late, handed, answer, number}
 
 -- ---- ticks and pulses ----
 
@@ -143,7 +146,7 @@ unfolding capturing
 low_from_start = (refl, refl, refl)
 
 -- "high before their first value": no character of a wire with no value, and of a text with no time
-pub silent : (handed fast [] false ≡ []) × (handed fast ("#172526" ∷ []) false ≡ []) × ((answer fast [] 0 0).number ≡ 0)
+pub silent : (handed fast [] false ≡ []) × (handed fast ("#172526" ∷ []) false ≡ []) × (answer fast [] 0 0 ≡ Ok (record { length_a = 0; length_b = 0 }))
 unfolding capturing
 silent = (refl, refl, refl)
 
@@ -182,9 +185,6 @@ second_set = (refl, refl)
 -- ---- the refusals ----
 
 -- "Refusals, in this order: 5 .., 10 .., 11 .., 8 either log too short"
-abbrev number : Asked → List String → ℕ → ℕ → ℕ
-number q body room_a room_b = (answer q body room_a room_b).number
-
 abbrev coded : ℕ → Asked
 coded code = record { mr1 = 16; acr7 = false; code = code }
 
@@ -192,21 +192,25 @@ pub order : (number (coded 13) (late ++ "x" ∷ []) 0 0 ≡ 5)
     × (number (coded 12) (late ++ "x" ∷ []) 0 0 ≡ 10)
     × (number (coded 12) late 0 0 ≡ 11)
     × (number (coded 12) both 0 0 ≡ 8)
-    × ((captured_of fast (text_of both) wire_a (bytes_of "RxDC") 2 2).number ≡ 10)
-    × (answer (coded 12) both 2 2 ≡ record { number = 0; length_a = 2; length_b = 2 })
+    × (number_of fast (text_of both) wire_a (bytes_of "RxDC") 2 2 ≡ 10)
+    × (answer (coded 12) both 2 2 ≡ Ok (record { length_a = 2; length_b = 2 }))
 unfolding capturing
 order = (refl, refl, refl, refl, refl, refl)
 
--- the same of any text with this number, and of any characters: these need two bytes each, and there is none
-abbrev texts : ℕ → Scanned
-texts n =
-    record { number = n; code_a = 33; code_b = 34; body = 129; times = last 5 }
+-- the same of any text with this answer, and of any characters: these need two bytes each, and there is none
+abbrev inside : Result Scanned Refusal
+inside = Ok (record { code_a = 33; code_b = 34; body = 129; times = last 5 })
 
-pub order_of_tests : (map (λ (n : ℕ). capture_refusal (coded 13) (texts n) 2 2 0 0) (0 ∷ 10 ∷ 11 ∷ []) ≡ 5 ∷ 5 ∷ 5 ∷ [])
-    × (map (λ (n : ℕ). capture_refusal (coded 12) (texts n) 2 2 0 0) (0 ∷ 10 ∷ 11 ∷ []) ≡ 8 ∷ 10 ∷ 11 ∷ [])
-    × (capture_refusal (coded 12) (texts 0) 2 2 2 1 ≡ 8)
-    × (capture_refusal (coded 12) (texts 0) 2 2 1 2 ≡ 8)
-    × (capture_refusal (coded 12) (texts 0) 2 2 2 2 ≡ 0)
+abbrev texts : List (Result Scanned Refusal)
+texts = inside ∷ Err TextOutside ∷ Err TimeNotLater ∷ []
+
+abbrev told : ℕ → ℕ → ℕ → Result Scanned Refusal → ℕ
+told code room_a room_b s = answer_number (capture_refusal (coded code) s 2 2 room_a room_b)
+
+pub order_of_tests : (map (told 13 0 0) texts ≡ 5 ∷ 5 ∷ 5 ∷ []) × (map (told 12 0 0) texts ≡ 8 ∷ 10 ∷ 11 ∷ [])
+    × (told 12 2 1 inside ≡ 8)
+    × (told 12 1 2 inside ≡ 8)
+    × (told 12 2 2 inside ≡ 0)
 unfolding capturing
 order_of_tests = (refl, refl, refl, refl, refl)
 
@@ -221,10 +225,10 @@ unfolding capturing
 fives_asked = (refl, refl)
 
 -- either log one byte short; a log of three bytes holds one character
-pub short : (answer fast twice 3 2 ≡ record { number = 8; length_a = 0; length_b = 0 })
-    × (answer fast twice 4 1 ≡ record { number = 8; length_a = 0; length_b = 0 })
-    × (answer fast twice 4 2 ≡ record { number = 0; length_a = 4; length_b = 2 })
-    × (answer fast both 3 3 ≡ record { number = 0; length_a = 2; length_b = 2 })
+pub short : (answer fast twice 3 2 ≡ Err SpaceShort)
+    × (answer fast twice 4 1 ≡ Err SpaceShort)
+    × (answer fast twice 4 2 ≡ Ok (record { length_a = 4; length_b = 2 }))
+    × (answer fast both 3 3 ≡ Ok (record { length_a = 2; length_b = 2 }))
 unfolding capturing
 short = (refl, refl, refl, refl)
 
@@ -239,17 +243,17 @@ refused_part = (refl, refl, refl, refl)
 -- ---- what is promised of the two logs ----
 
 -- each has its own channel's characters, and past them what it held; "both logs stay" where one is too short
-abbrev Met : List ℕ → List ℕ → List ℕ → List ℕ → Captured → Type 0
+abbrev Met : List ℕ → List ℕ → List ℕ → List ℕ → Result Captured Refusal → Type 0
 Met before_a before_b after_a after_b r =
     CaptureMet fast (text_of twice) wire_a wire_b before_a before_b after_a after_b r
 
-pub logs_filled : (after_a after_b : List ℕ) (r : Captured) → Met (7 ∷ 7 ∷ 7 ∷ 7 ∷ 7 ∷ []) (9 ∷ 9 ∷ []) after_a after_b r
+pub logs_filled : (after_a after_b : List ℕ) (r : Result Captured Refusal) → Met (7 ∷ 7 ∷ 7 ∷ 7 ∷ 7 ∷ []) (9 ∷ 9 ∷ []) after_a after_b r
     → (after_a ≡ 21 ∷ 0 ∷ 1 ∷ 0 ∷ 7 ∷ []) × (after_b ≡ 10 ∷ 0 ∷ [])
-    × (r ≡ record { number = 0; length_a = 4; length_b = 2 })
+    × (r ≡ Ok (record { length_a = 4; length_b = 2 }))
 unfolding capturing
 logs_filled after_a after_b r m = (m.first, m.second, m.answer)
 
-pub logs_stay : (after_a after_b : List ℕ) (r : Captured) → Met (7 ∷ 7 ∷ 7 ∷ 7 ∷ []) (9 ∷ []) after_a after_b r
-    → (after_a ≡ 7 ∷ 7 ∷ 7 ∷ 7 ∷ []) × (after_b ≡ 9 ∷ []) × (r ≡ record { number = 8; length_a = 0; length_b = 0 })
+pub logs_stay : (after_a after_b : List ℕ) (r : Result Captured Refusal) → Met (7 ∷ 7 ∷ 7 ∷ 7 ∷ []) (9 ∷ []) after_a after_b r
+    → (after_a ≡ 7 ∷ 7 ∷ 7 ∷ 7 ∷ []) × (after_b ≡ 9 ∷ []) × (r ≡ Err SpaceShort)
 unfolding capturing
 logs_stay after_a after_b r m = (m.first, m.second, m.answer)

@@ -14,7 +14,7 @@ use Rattle.vcd_capture.specs.Logs.{marks_byte}
 use Rattle.vcd_capture.specs.Ear.{ticks_before, pulses_before}
 use Rattle.vcd_capture.specs.Capture.{end_of, log_a, number_of, log_after, handed_of}
 use Rattle.vcd_capture.proofs.Computing.{capturing, fast, bits, both, twice, text_of, wire_a, wire_b}
-use Rattle.vcd_capture.proofs.Computing.{late, handed, answer}
+use Rattle.vcd_capture.proofs.Computing.{late, handed, number, filled}
 
 -- ---- the levels ----
 
@@ -110,7 +110,7 @@ unfolding capturing
 no_written_beside_short = omega arith
 
 -- an odd byte is not used: for the data of a second character, or cleared
-no_odd_byte_used : 0 ≡ (answer fast twice 3 2).number → ⊥
+no_odd_byte_used : 0 ≡ number fast twice 3 2 → ⊥
 unfolding capturing
 no_odd_byte_used = omega arith
 
@@ -119,12 +119,12 @@ unfolding capturing
 no_odd_byte_cleared = omega arith
 
 -- exact room is enough
-no_exact_refused : 8 ≡ (answer fast both 2 2).number → ⊥
+no_exact_refused : 8 ≡ number fast both 2 2 → ⊥
 unfolding capturing
 no_exact_refused = omega arith
 
 -- only the named channel's log is asked, or filled
-no_named_alone : 0 ≡ (answer fast both 2 1).number → ⊥
+no_named_alone : 0 ≡ number fast both 2 1 → ⊥
 unfolding capturing
 no_named_alone = omega arith
 
@@ -136,33 +136,33 @@ no_nothing_written = omega arith
 -- ---- the answer ----
 
 -- "Refusals, in this order: 5 .., 10 .., 11 .., 8"
-no_eight_first : 8 ≡ (answer fast late 0 0).number → ⊥
+no_eight_first : 8 ≡ number fast late 0 0 → ⊥
 unfolding capturing
 no_eight_first = omega arith
 
-no_eleven_before_ten : 11 ≡ (answer fast (late ++ "x" ∷ []) 0 0).number → ⊥
+no_eleven_before_ten : 11 ≡ number fast (late ++ "x" ∷ []) 0 0 → ⊥
 unfolding capturing
 no_eleven_before_ten = omega arith
 
-no_five_last : 10 ≡ (answer (record { mr1 = 16; acr7 = false; code = 13 }) ("x" ∷ []) 0 0).number → ⊥
+no_five_last : 10 ≡ number (record { mr1 = 16; acr7 = false; code = 13 }) ("x" ∷ []) 0 0 → ⊥
 unfolding capturing
 no_five_last = omega arith
 
 -- "CSR code 0 to 12", "5 (a code above 12 too)"
-no_twelve_refused : 5 ≡ (answer fast [] 0 0).number → ⊥
+no_twelve_refused : 5 ≡ number fast [] 0 0 → ⊥
 unfolding capturing
 no_twelve_refused = omega arith
 
-no_thirteen_taken : 0 ≡ (answer (record { mr1 = 16; acr7 = false; code = 13 }) [] 0 0).number → ⊥
+no_thirteen_taken : 0 ≡ number (record { mr1 = 16; acr7 = false; code = 13 }) [] 0 0 → ⊥
 unfolding capturing
 no_thirteen_taken = omega arith
 
 -- the length of the log's room, and of a refused call
-no_room_for_length : 100 ≡ (answer fast both 100 100).length_a → ⊥
+no_room_for_length : 100 ≡ (filled fast both 100 100).length_a → ⊥
 unfolding capturing
 no_room_for_length = omega arith
 
-no_refused_length : 2 ≡ (answer fast both 2 1).length_a → ⊥
+no_refused_length : 2 ≡ (filled fast both 2 1).length_a → ⊥
 unfolding capturing
 no_refused_length = omega arith
 
@@ -187,7 +187,7 @@ unfolding capturing
 no_constant l h = omega (arith, ap (λ (x : List ℕ). get_or x 0 0) (sym (h fast both false) ∙ h fast both true))
 
 no_all_refused : (n : ℕ)
-    → ((q : Asked) (body : List String) (room_a room_b : ℕ) → n + 1 ≡ (answer q body room_a room_b).number) → ⊥
+    → ((q : Asked) (body : List String) (room_a room_b : ℕ) → n + 1 ≡ number q body room_a room_b) → ⊥
 unfolding capturing
 no_all_refused n h = omega (arith, h fast both 2 2)
 

@@ -1,7 +1,7 @@
 -- Order 7: "Customers send value change dumps of the real chip's two RxD lines. .. Turn each line, up to the last time, into
 -- characters by document 01's receiver, just enabled, phase 0, for a given MR1, ACR bit 7 and CSR code 0 to 12." Assumes
 -- nothing.
-use Rattle.std.specs.Prelude.{ℕ, ◌+◌, ◌≡◌, Bool, true, ◌||◌, List, [], ◌++◌, eqb, ltb, length, drop, Option, None, Some}
+use Rattle.std.specs.Prelude.{ℕ, ◌+◌, ◌≡◌, Bool, true, ◌||◌, List, [], ◌++◌, eqb, ltb, length, drop, Option, None, Some, Result, Ok, Err}
 use Rattle.format.specs.Pick.{pick}
 use Rattle.format.specs.Format.{mr1_not_modelled, format_of}
 use Rattle.feed.specs.declared.feed.Setting.{Setting}
@@ -11,6 +11,9 @@ use Rattle.vcd_read.specs.declared.checking.Times.{Times}
 use Rattle.vcd_read.specs.declared.scanning.Scanned.{Scanned}
 use Rattle.vcd_lines.specs.Body.{started}
 use Rattle.vcd_read.specs.Scan.{scan_of}
+use Rattle.refusal.specs.declared.refusal.Refusal.{Refusal}
+use Rattle.refusal.specs.declared.refusal.Refusal.TheVariants.{SettingNotModelled, SpaceShort}
+use Rattle.refusal.specs.Refusal.{answer_number}
 use Rattle.vcd_capture.specs.declared.capturing.Asked.{Asked}
 use Rattle.vcd_capture.specs.declared.capturing.Captured.{Captured}
 use Rattle.vcd_capture.specs.Logs.{log_bytes}
@@ -37,37 +40,50 @@ characters_of q text s wire =
 abbrev pub log_of : Asked → List ℕ → Scanned → ℕ → List ℕ
 log_of q text s wire = log_bytes (characters_of q text s wire)
 
--- "Refusals, in this order: 5 (a code above 12 too), 10 .., 11 .., 8 either log too short"
-unfoldable pub capture_refusal : Asked → Scanned → ℕ → ℕ → ℕ → ℕ → ℕ
-capture_refusal q s a b room_a room_b =
-    pick (mr1_not_modelled q.mr1 || ltb 12 q.code) 5
-    (pick (eqb s.number 0) (pick (ltb room_a a || ltb room_b b) 8 0) s.number)
+-- a log that is heard in a text: of one that is refused there is none
+unfoldable pub log_in : Asked → List ℕ → (Scanned → ℕ) → Result Scanned Refusal → List ℕ
+log_in q text wire (Err refusal) = []
+log_in q text wire (Ok s) = log_of q text s (wire s)
 
 -- the call: what it asks for, the text, the two names and the two logs' lengths
 abbrev pub log_a : Asked → List ℕ → List ℕ → List ℕ → List ℕ
-log_a q text a b = log_of q text (scan_of text a b) (scan_of text a b).code_a
+log_a q text a b = log_in q text (λ (s : Scanned). s.code_a) (scan_of text a b)
 
 abbrev pub log_b : Asked → List ℕ → List ℕ → List ℕ → List ℕ
-log_b q text a b = log_of q text (scan_of text a b) (scan_of text a b).code_b
+log_b q text a b = log_in q text (λ (s : Scanned). s.code_b) (scan_of text a b)
 
-abbrev pub number_of : Asked → List ℕ → List ℕ → List ℕ → ℕ → ℕ → ℕ
-number_of q text a b room_a room_b =
+-- "Refusals, in this order: 5 (a code above 12 too), 10 .., 11 .., 8 either log too short"
+unfoldable pub text_refusal : Result Scanned Refusal → Option Refusal → Option Refusal
+text_refusal (Err refusal) next = Some refusal
+text_refusal (Ok s) next = next
+
+unfoldable pub capture_refusal : Asked → Result Scanned Refusal → ℕ → ℕ → ℕ → ℕ → Option Refusal
+capture_refusal q s a b room_a room_b =
+    pick (mr1_not_modelled q.mr1 || ltb 12 q.code) (Some SettingNotModelled)
+    (text_refusal s (pick (ltb room_a a || ltb room_b b) (Some SpaceShort) None))
+
+abbrev pub refusal_of : Asked → List ℕ → List ℕ → List ℕ → ℕ → ℕ → Option Refusal
+refusal_of q text a b room_a room_b =
     capture_refusal q (scan_of text a b) (length (log_a q text a b)) (length (log_b q text a b)) room_a room_b
 
-unfoldable pub captured_of : Asked → List ℕ → List ℕ → List ℕ → ℕ → ℕ → Captured
+abbrev pub number_of : Asked → List ℕ → List ℕ → List ℕ → ℕ → ℕ → ℕ
+number_of q text a b room_a room_b = answer_number (refusal_of q text a b room_a room_b)
+
+unfoldable pub captured_by : Option Refusal → Captured → Result Captured Refusal
+captured_by (Some refusal) filled = Err refusal
+captured_by None filled = Ok filled
+
+unfoldable pub captured_of : Asked → List ℕ → List ℕ → List ℕ → ℕ → ℕ → Result Captured Refusal
 captured_of q text a b room_a room_b =
-    record {
-      number = number_of q text a b room_a room_b;
-      length_a = pick (eqb (number_of q text a b room_a room_b) 0) (length (log_a q text a b)) 0;
-      length_b = pick (eqb (number_of q text a b room_a room_b) 0) (length (log_b q text a b)) 0;
-    }
+    captured_by (refusal_of q text a b room_a room_b)
+    (record { length_a = length (log_a q text a b); length_b = length (log_b q text a b) })
 
 -- a log then: the characters of its channel, and past them what it held; "both logs stay" where the call is refused
 unfoldable pub log_after : ℕ → List ℕ → List ℕ → List ℕ
 log_after number filled log = pick (eqb number 0) (filled ++ drop (length filled) log) log
 
 -- what is promised of a call: the answer, and both logs whole
-pub record CaptureMet (q : Asked) (text a b before_a before_b after_a after_b : List ℕ) (r : Captured) : Type 0 where
+pub record CaptureMet (q : Asked) (text a b before_a before_b after_a after_b : List ℕ) (r : Result Captured Refusal) : Type 0 where
   pub answer : r ≡ captured_of q text a b (length before_a) (length before_b)
   pub first : after_a ≡ log_after (number_of q text a b (length before_a) (length before_b)) (log_a q text a b) before_a
   pub second : after_b ≡ log_after (number_of q text a b (length before_a) (length before_b)) (log_b q text a b) before_b

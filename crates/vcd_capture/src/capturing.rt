@@ -6,6 +6,7 @@ use crate::ear::{Wire, hear_wire};
 use dividers::period_of;
 use feed::Setting;
 use format::{format_of, mr1_not_modelled};
+use refusal::Refusal;
 use vcd_read::{Times, scan};
 
 // "for a given MR1, ACR bit 7 and CSR code 0 to 12"
@@ -16,10 +17,9 @@ pub struct Asked {
     pub code: u8,
 }
 
-// The number, and how much of each log is filled.
+// How much of each log is filled.
 #[derive(Clone, Copy)]
 pub struct Captured {
-    pub number: u8,
     pub length_a: usize,
     pub length_b: usize,
 }
@@ -42,16 +42,6 @@ fn end_of(times: Times) -> u64
     }
 }
 
-fn refuse(number: u8) -> Captured
-    ensures { result ≡ record { number = number; length_a = 0; length_b = 0 } }
-{
-    Captured {
-        number: number,
-        length_a: 0,
-        length_b: 0,
-    }
-}
-
 // "There are two lent logs, one per channel": both are filled, or neither. The characters are heard into no log first, which
 // counts them.
 pub fn read_capture(
@@ -61,17 +51,14 @@ pub fn read_capture(
     name_b: &[u8],
     log_a: &mut [u8],
     log_b: &mut [u8],
-) -> Captured
+) -> Result<Captured, Refusal>
     ensures { CaptureMet asked text.now name_a.now name_b.now
         log_a.old log_b.old log_a.new log_b.new result }
 {
     if mr1_not_modelled(asked.mr1) | (12 < asked.code) {
-        return refuse(5);
+        return Err(Refusal::SettingNotModelled);
     }
-    let found = scan(text, name_a, name_b);
-    if found.number != 0 {
-        return refuse(found.number);
-    }
+    let found = scan(text, name_a, name_b)?;
     let lines = &text[found.body..];
     let period = period_of(asked.acr7, asked.code).0;
     let setting = setting_of(asked.mr1);
@@ -90,16 +77,18 @@ pub fn read_capture(
     let length_a = hear_wire(lines, wire_a, end, &mut none);
     let length_b = hear_wire(lines, wire_b, end, &mut none);
     if (log_a.len() < length_a) | (log_b.len() < length_b) {
-        return refuse(8);
+        return Err(Refusal::SpaceShort);
     }
     hear_wire(lines, wire_a, end, log_a);
     hear_wire(lines, wire_b, end, log_b);
-    Captured {
-        number: 0,
-        length_a: length_a,
-        length_b: length_b,
-    }
+    Ok(Captured { length_a, length_b })
 }
+
+// "the part is then empty", where the call is refused
+const UNFILLED: Captured = Captured {
+    length_a: 0,
+    length_b: 0,
+};
 
 // "Two lent log slices; the returned part comes from the one that the channel names."
 pub fn capture<'a>(
@@ -115,10 +104,9 @@ pub fn capture<'a>(
         (length log_a.old) (length log_b.old) channel_b }
 {
     let captured = read_capture(asked, text, name_a, name_b, log_a, log_b);
-    let length_a = captured.length_a;
-    let length_b = captured.length_b;
+    let filled = captured.unwrap_or(UNFILLED);
     if channel_b {
-        return &mut log_b[..length_b];
+        return &mut log_b[..filled.length_b];
     }
-    &mut log_a[..length_a]
+    &mut log_a[..filled.length_a]
 }

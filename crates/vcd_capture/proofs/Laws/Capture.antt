@@ -1,13 +1,15 @@
 -- The answer and the logs by the test that decides them, in the order of the tests. Assumes nothing.
 use Prim.Native.Nat.{ℕ, ◌+◌, ◌-◌}
 use mathlib.Core.Path.{◌≡◌, refl, sym, ◌∙◌, ap}
-use mathlib.Core.Bool.{Bool, true, false, ◌||◌, true≢false}
+use mathlib.Core.Bool.{Bool, true, false, ◌||◌, true≢false, false≢true}
 use mathlib.Core.List.{List, [], ◌++◌}
 use native.Mathlib.Omega.{arith}
 use lib.Dec.{eqb, ltb}
 use lib.ListN.{length, take, drop}
 use lib.Seq.{take-append_seam}
-use borrow.Author.Tests.{eq-eqb, ne_eqb, ltb-false}
+use borrow.Author.Tests.{ne_eqb, ltb-false}
+use Rattle.std.specs.Prelude.{Option, None, Some, Result, Ok, Err}
+use Rattle.std.specs.Result.{result_err, result_unwrap_or, is_ok}
 use Rattle.std.proofs.lemmas.List.{take_rest}
 use Rattle.format.specs.Pick.{pick}
 use Rattle.format.specs.Format.{mr1_not_modelled}
@@ -19,11 +21,15 @@ use Rattle.text.proofs.Laws.Puts.{puts_whole}
 use Rattle.vcd_read.specs.declared.scanning.Scanned.{Scanned}
 use Rattle.vcd_lines.specs.Body.{started}
 use Rattle.vcd_read.specs.Scan.{scan_of}
+use Rattle.refusal.specs.declared.refusal.Refusal.{Refusal}
+use Rattle.refusal.specs.declared.refusal.Refusal.TheVariants.{SettingNotModelled, SpaceShort}
+use Rattle.refusal.specs.Refusal as Refusals
+use Rattle.refusal.proofs.Laws.{never_0}
 use Rattle.vcd_capture.specs.declared.capturing.Asked.{Asked}
 use Rattle.vcd_capture.specs.declared.capturing.Captured.{Captured}
 use Rattle.vcd_capture.specs.Logs.{log_bytes}
 use Rattle.vcd_capture.specs.Ear.{heard_from, just_enabled}
-use Rattle.vcd_capture.specs.Capture.{setting_of, end_of, capture_refusal, log_a, log_b, number_of, captured_of, log_after, CaptureMet, handed_of}
+use Rattle.vcd_capture.specs.Capture.{setting_of, end_of, log_in, text_refusal, capture_refusal, log_a, log_b, refusal_of, number_of, captured_by, captured_of, log_after, CaptureMet, handed_of}
 
 both_false : (x y : Bool) → (x || y) ≡ false → (x ≡ false) × (y ≡ false)
 both_false false y h = (refl, h)
@@ -35,43 +41,47 @@ from_start h = omega arith
 
 -- what is heard of a wire, with what the code has worked out: the lines are the slice from the header's end on
 pub heard_is : (q : Asked) (text a b : List ℕ) (p : Ticks) (f : Setting) (end : ℕ) (s : Scanned) → p ≡ period_of q.acr7 q.code → f ≡ setting_of q.mr1
-    → end ≡ end_of s.times → s ≡ scan_of text a b
+    → end ≡ end_of s.times → scan_of text a b ≡ Ok s
     → (log_bytes (heard_from p.0 f s.code_a end started just_enabled (take (length text - s.body) (drop s.body text))) ≡ log_a q text a b)
     × (log_bytes (heard_from p.0 f s.code_b end started just_enabled (take (length text - s.body) (drop s.body text))) ≡ log_b q text a b)
+unfolding log_in
 heard_is q text a b p f end s ep ef ee es = (rw (take_rest text s.body, ep, ef, ee, es), rw (take_rest text s.body, ep, ef, ee, es))
 
 module _ (q : Asked) (text a b la lb : List ℕ) where
-  abbrev number : ℕ
-  number = number_of q text a b (length la) (length lb)
+  abbrev refusal : Option Refusal
+  refusal = refusal_of q text a b (length la) (length lb)
 
-  pub five : (mr1_not_modelled q.mr1 || ltb 12 q.code) ≡ true → number ≡ 5
+  abbrev pub Short : Bool → Type 0
+  Short t = (ltb (length la) (length (log_a q text a b)) || ltb (length lb) (length (log_b q text a b))) ≡ t
+
+  pub five : (mr1_not_modelled q.mr1 || ltb 12 q.code) ≡ true → refusal ≡ Some SettingNotModelled
   unfolding capture_refusal pick
   five e = rw e
 
   module _ (m : (mr1_not_modelled q.mr1 || ltb 12 q.code) ≡ false) where
-    pub by-text : ((scan_of text a b).number ≡ 0 → ⊥) → number ≡ (scan_of text a b).number
-    unfolding capture_refusal pick
-    by-text e = rw (m, ne_eqb _ 0 e)
+    pub by-text : (x : Refusal) → scan_of text a b ≡ Err x → refusal ≡ Some x
+    unfolding capture_refusal text_refusal pick
+    by-text x e = rw (m, e)
 
-    module _ (s : (scan_of text a b).number ≡ 0) where
-      pub eight : (ltb (length la) (length (log_a q text a b)) || ltb (length lb) (length (log_b q text a b))) ≡ true → number ≡ 8
-      unfolding capture_refusal pick
-      eight e = rw (m, eq-eqb _ 0 s, e)
+    module _ (s : Scanned) (found : scan_of text a b ≡ Ok s) where
+      pub eight : Short true → refusal ≡ Some SpaceShort
+      unfolding capture_refusal text_refusal pick
+      eight e = rw (m, e, found)
 
-      pub none : (ltb (length la) (length (log_a q text a b)) || ltb (length lb) (length (log_b q text a b))) ≡ false → number ≡ 0
-      unfolding capture_refusal pick
-      none e = rw (m, eq-eqb _ 0 s, e)
+      pub none : Short false → refusal ≡ None
+      unfolding capture_refusal text_refusal pick
+      none e = rw (m, e, found)
 
-  pub refused : (n : ℕ) (r : Captured) → eqb n 0 ≡ false → number ≡ n → r ≡ record { number = n; length_a = 0; length_b = 0 }
-      → CaptureMet q text a b la lb la lb r
-  unfolding captured_of log_after pick
-  refused n r z e h = record { answer = h ∙ rw (e, z); first = rw (e, z); second = rw (e, z) }
+  pub refused : (x : Refusal) (r : Result Captured Refusal) → refusal ≡ Some x → r ≡ Err x → CaptureMet q text a b la lb la lb r
+  unfolding captured_of captured_by log_after pick
+  refused x r e h =
+      let z = ne_eqb _ 0 (never_0 x) in
+      record { answer = h ∙ rw e; first = rw (e, z); second = rw (e, z) }
 
-  pub accepted : (ea eb : ℕ) (ta tb : List ℕ) → ea ≡ length (log_a q text a b) → eb ≡ length (log_b q text a b) → number ≡ 0
-      → (ltb (length la) (length (log_a q text a b)) || ltb (length lb) (length (log_b q text a b))) ≡ false
+  pub accepted : (ea eb : ℕ) (ta tb : List ℕ) → ea ≡ length (log_a q text a b) → eb ≡ length (log_b q text a b) → refusal ≡ None → Short false
       → (xa xb : ℕ) → Puts 0 (log_a q text a b) la ta xa → Puts 0 (log_b q text a b) lb tb xb
-      → CaptureMet q text a b la lb ta tb (record { number = 0; length_a = ea; length_b = eb })
-  unfolding captured_of log_after pick
+      → CaptureMet q text a b la lb ta tb (Ok (record { length_a = ea; length_b = eb }))
+  unfolding captured_of captured_by log_after pick
   accepted ea eb ta tb ha hb e fits xa xb pa pb =
       let f = both_false _ _ fits in
       record {
@@ -90,11 +100,51 @@ part true x l after k e h =
     (p, e ∙ ap length (sym p))
 part false x l after k e h = (rw e, rw e)
 
-module _ (q : Asked) (text a b la lb ta tb : List ℕ) (r : Captured) (met : CaptureMet q text a b la lb ta tb r) where
-  pub part-a : (take r.length_a ta ≡ handed_of q text a b (length la) (length lb) false) × (r.length_a ≡ length (take r.length_a ta))
-  unfolding handed_of captured_of log_after pick
-  part-a = part (eqb (number_of q text a b (length la) (length lb)) 0) (log_a q text a b) la ta r.length_a (ap (λ (x : Captured). x.length_a) met.answer) met.first
+-- nothing of either log
+abbrev pub unfilled : Captured
+unfilled = record { length_a = 0; length_b = 0 }
 
-  pub part-b : (take r.length_b tb ≡ handed_of q text a b (length la) (length lb) true) × (r.length_b ≡ length (take r.length_b tb))
-  unfolding handed_of captured_of log_after pick
-  part-b = part (eqb (number_of q text a b (length la) (length lb)) 0) (log_b q text a b) lb tb r.length_b (ap (λ (x : Captured). x.length_b) met.answer) met.second
+-- what an answer tells of the refusal
+told_none : (o : Option Refusal) (f x : Captured) → Ok x ≡ captured_by o f → (o ≡ None) × (x ≡ f)
+unfolding captured_by
+told_none None f x h = (refl, ap (λ (r : Result Captured Refusal). result_unwrap_or r f) h)
+told_none (Some y) f x h = absurd (true≢false (ap is_ok h))
+
+told_some : (o : Option Refusal) (f : Captured) (x : Refusal) → Err x ≡ captured_by o f → o ≡ Some x
+unfolding captured_by
+told_some None f x h = absurd (false≢true (ap is_ok h))
+told_some (Some y) f x h = sym (ap result_err h)
+
+module _ (q : Asked) (text a b la lb ta tb : List ℕ) where
+  pub accepts : (x : Captured) → CaptureMet q text a b la lb ta tb (Ok x) → number_of q text a b (length la) (length lb) ≡ 0
+  unfolding captured_of
+  accepts x met = rw (told_none _ _ x met.answer).0
+
+  pub refuses : (x : Refusal) → CaptureMet q text a b la lb ta tb (Err x) → number_of q text a b (length la) (length lb) ≡ Refusals.number_of x
+  unfolding captured_of
+  refuses x met = rw (told_some _ _ x met.answer)
+
+  -- the part of each log that is filled
+  pub filled-a : (x : Captured) → CaptureMet q text a b la lb ta tb (Ok x) → (take x.length_a ta ≡ log_a q text a b) × (x.length_a ≡ length (take x.length_a ta))
+  unfolding captured_of log_after pick
+  filled-a x met =
+      let e = accepts x met in
+      part true (log_a q text a b) la ta x.length_a (ap (λ (y : Captured). y.length_a) (told_none _ _ x met.answer).1) (met.first ∙ rw e)
+
+  pub filled-b : (x : Captured) → CaptureMet q text a b la lb ta tb (Ok x) → (take x.length_b tb ≡ log_b q text a b) × (x.length_b ≡ length (take x.length_b tb))
+  unfolding captured_of log_after pick
+  filled-b x met =
+      let e = accepts x met in
+      part true (log_b q text a b) lb tb x.length_b (ap (λ (y : Captured). y.length_b) (told_none _ _ x met.answer).1) (met.second ∙ rw e)
+
+  pub part-a : (r : Result Captured Refusal) → CaptureMet q text a b la lb ta tb r → (filled : Captured) → filled ≡ result_unwrap_or r unfilled
+      → (take filled.length_a ta ≡ handed_of q text a b (length la) (length lb) false) × (filled.length_a ≡ length (take filled.length_a ta))
+  unfolding handed_of pick
+  part-a (Ok x) met filled h = let f = filled-a x met in rw (h, accepts x met) f
+  part-a (Err x) met filled h = rw (h, refuses x met, ne_eqb _ 0 (never_0 x)) (refl, refl)
+
+  pub part-b : (r : Result Captured Refusal) → CaptureMet q text a b la lb ta tb r → (filled : Captured) → filled ≡ result_unwrap_or r unfilled
+      → (take filled.length_b tb ≡ handed_of q text a b (length la) (length lb) true) × (filled.length_b ≡ length (take filled.length_b tb))
+  unfolding handed_of pick
+  part-b (Ok x) met filled h = let f = filled-b x met in rw (h, accepts x met) f
+  part-b (Err x) met filled h = rw (h, refuses x met, ne_eqb _ 0 (never_0 x)) (refl, refl)

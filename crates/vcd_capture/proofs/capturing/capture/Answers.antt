@@ -4,25 +4,13 @@ use Rattle.vcd_capture.proofs.Laws.Capture.{part-a, part-b}
 use Rattle.vcd_capture.proofs.capturing.capture.Goals as goal
 
 pub slice_bounds-result-end : goal.slice_bounds-result-end
-slice_bounds-result-end c =
-    let x = c.args in
-    let met = c.read_capture-captured.ensures in
-    (part-b _ _ _ _ _ _ _ _ _ met).1
+slice_bounds-result-end c = (part-b _ _ _ _ _ _ _ _ _ c.read_capture-captured.ensures _ c.unwrap_or-filled.ensures).1
 
 pub returns-then-channel_b : goal.returns-then-channel_b
-returns-then-channel_b c =
-    let x = c.args in
-    let met = c.read_capture-captured.ensures in
-    (part-b _ _ _ _ _ _ _ _ _ met).0 ∙ rw c.if-channel_b.true
+returns-then-channel_b c = (part-b _ _ _ _ _ _ _ _ _ c.read_capture-captured.ensures _ c.unwrap_or-filled.ensures).0 ∙ rw c.if-channel_b.true
 
 pub slice_bounds-result-end-2 : goal.slice_bounds-result-end-2
-slice_bounds-result-end-2 c =
-    let x = c.args in
-    let met = c.read_capture-captured.ensures in
-    (part-a _ _ _ _ _ _ _ _ _ met).1
+slice_bounds-result-end-2 c = (part-a _ _ _ _ _ _ _ _ _ c.read_capture-captured.ensures _ c.unwrap_or-filled.ensures).1
 
 pub returns : goal.returns
-returns c =
-    let x = c.args in
-    let met = c.read_capture-captured.ensures in
-    (part-a _ _ _ _ _ _ _ _ _ met).0 ∙ rw c.if-channel_b.false
+returns c = (part-a _ _ _ _ _ _ _ _ _ c.read_capture-captured.ensures _ c.unwrap_or-filled.ensures).0 ∙ rw c.if-channel_b.false
