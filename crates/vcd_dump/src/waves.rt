@@ -23,20 +23,14 @@ pub struct Wave {
     pub at: usize,
 }
 
-fn bit_of(level: bool) -> u16
-    ensures { (result ≡ bit level) × (result < 2) }
-{
-    if level { 1 } else { 0 }
-}
-
 // "TxDA, TxDB, IRQ as line level (asserted is 0) and OP0 to OP7", the first the lowest bit
 fn values_of(lines: Lines) -> u16
     ensures { result ≡ value_of (values_of lines) }
 {
-    let txda = bit_of(lines.txda);
-    let txdb = bit_of(lines.txdb);
-    let irq = bit_of(!lines.irq);
-    txda + 2 * txdb + 4 * irq + 8 * lines.op as u16
+    let txda = u16::from(lines.txda);
+    let txdb = u16::from(lines.txdb);
+    let irq = u16::from(!lines.irq);
+    txda + 2 * txdb + 4 * irq + 8 * u16::from(lines.op)
 }
 
 fn record_at(events: &[u8], i: usize) -> EventRecord
@@ -89,18 +83,14 @@ pub fn write_waves(device: Device, events: &[u8], space: &mut [u8]) -> usize
         at: begun,
     };
     let mut state = device;
-    let count = events.len() / 3;
-    let mut i = 0usize;
-    while i < count {
+    for i in 0..events.len() / 3 {
         let event = record_at(events, i);
         let answer = sound_step(state, event_of(event));
         if answer.number != 0 {
             return put_changes(wave.tick, wave.before, wave.values, wave.at, space);
         }
         wave = add_event(wave, event.kind == 5, answer.lines, space);
-        let next = answer.state;
-        state = next;
-        i += 1;
+        state = answer.state;
     }
     put_changes(wave.tick, wave.before, wave.values, wave.at, space)
 }
