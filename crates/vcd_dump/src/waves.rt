@@ -1,10 +1,10 @@
 // The values of each time, written when the time ends.
-ghost use Rattle.std.specs.Prelude.{◌+◌, ◌*◌, ◌/◌, ◌^◌, ◌≤◌, ◌<◌, ◌≡◌, true, length};
-ghost use Rattle.format.specs.Digits.{bit, value_of};
+ghost use Rattle.std.specs.Prelude.{◌+◌, ◌/◌, ◌^◌, ◌≤◌, ◌<◌, ◌≡◌, true, length};
+ghost use Rattle.format.specs.Digits.{value_of};
 ghost use Rattle.chip_device.specs.Device.{is_sound_of};
 ghost use Rattle.text.specs.Puts.{Puts};
 ghost use Rattle.vcd_dump.specs.Waves.{values_of};
-ghost use Rattle.vcd_dump.specs.Wave.{record_at, Adds};
+ghost use Rattle.vcd_dump.specs.Wave.{Adds};
 ghost use Rattle.vcd_dump.specs.Dump.{text_of};
 
 use chip_answers::Lines;
@@ -33,18 +33,6 @@ fn values_of(lines: Lines) -> u16
     txda + 2 * txdb + 4 * irq + 8 * u16::from(lines.op)
 }
 
-fn record_at(events: &[u8], i: usize) -> EventRecord
-    requires { 3 * i + 2 < length events.now }
-    ensures { result ≡ record_at events.now i }
-{
-    let at = 3 * i;
-    EventRecord {
-        kind: events[at],
-        reg: events[at + 1],
-        byte: events[at + 2],
-    }
-}
-
 // After an accepted event. "Events without a tick share the time of the last one; at each time only the last values
 // count": a tick ends the time before it.
 fn add_event(wave: Wave, tick: bool, lines: Lines, space: &mut [u8]) -> Wave
@@ -58,16 +46,11 @@ fn add_event(wave: Wave, tick: bool, lines: Lines, space: &mut [u8]) -> Wave
         return Wave {
             tick: wave.tick + 1,
             before: wave.values,
-            values: values,
-            at: at,
+            values,
+            at,
         };
     }
-    Wave {
-        tick: wave.tick,
-        before: wave.before,
-        values: values,
-        at: wave.at,
-    }
+    Wave { values, ..wave }
 }
 
 // The whole text. "It stops before a refused event".
@@ -83,13 +66,14 @@ pub fn write_waves(device: Device, events: &[u8], space: &mut [u8]) -> usize
         at: begun,
     };
     let mut state = device;
-    for i in 0..events.len() / 3 {
-        let event = record_at(events, i);
+    let (records, _) = events.as_chunks::<3>();
+    for &[kind, reg, byte] in records {
+        let event = EventRecord { kind, reg, byte };
         let answer = sound_step(state, event_of(event));
         if answer.number != 0 {
             return put_changes(wave.tick, wave.before, wave.values, wave.at, space);
         }
-        wave = add_event(wave, event.kind == 5, answer.lines, space);
+        wave = add_event(wave, kind == 5, answer.lines, space);
         state = answer.state;
     }
     put_changes(wave.tick, wave.before, wave.values, wave.at, space)

@@ -2,5 +2,5 @@
 use Rattle.vcd_dump.proofs.Laws.Stands.{Stands}
 use Rattle.vcd_dump.proofs.waves.write_waves.Given as goal
 
-abbrev pub invariant-loop-i : goal.invariant-loop-i
-invariant-loop-i l = Stands l.events l.initial.space l.initial.wave l.initial.state l.space l.wave l.state l.i
+abbrev pub invariant-loop-kind : goal.invariant-loop-kind
+invariant-loop-kind l = Stands l.events l.initial.space l.initial.wave l.initial.state l.space l.wave l.state l.kind-index
