@@ -1,10 +1,10 @@
 // The values of each time, written when the time ends.
-ghost use Rattle.std.specs.Prelude.{◌+◌, ◌*◌, ◌/◌, ◌^◌, ◌≤◌, ◌<◌, ◌≡◌, true, length};
-ghost use Rattle.format.specs.Digits.{bit, value_of};
+ghost use Rattle.std.specs.Prelude.{◌+◌, ◌/◌, ◌^◌, ◌≤◌, ◌<◌, ◌≡◌, true, length};
+ghost use Rattle.format.specs.Digits.{value_of};
 ghost use Rattle.chip_device.specs.Device.{is_sound_of};
 ghost use Rattle.text.specs.Puts.{Puts};
 ghost use Rattle.vcd_dump.specs.Waves.{values_of};
-ghost use Rattle.vcd_dump.specs.Wave.{record_at, Adds};
+ghost use Rattle.vcd_dump.specs.Wave.{Adds};
 ghost use Rattle.vcd_dump.specs.Dump.{text_of};
 
 use chip_answers::Lines;
@@ -23,32 +23,14 @@ pub struct Wave {
     pub at: usize,
 }
 
-fn bit_of(level: bool) -> u16
-    ensures { (result ≡ bit level) × (result < 2) }
-{
-    if level { 1 } else { 0 }
-}
-
 // "TxDA, TxDB, IRQ as line level (asserted is 0) and OP0 to OP7", the first the lowest bit
 fn values_of(lines: Lines) -> u16
     ensures { result ≡ value_of (values_of lines) }
 {
-    let txda = bit_of(lines.txda);
-    let txdb = bit_of(lines.txdb);
-    let irq = bit_of(!lines.irq);
-    txda + 2 * txdb + 4 * irq + 8 * lines.op as u16
-}
-
-fn record_at(events: &[u8], i: usize) -> EventRecord
-    requires { 3 * i + 2 < length events.now }
-    ensures { result ≡ record_at events.now i }
-{
-    let at = 3 * i;
-    EventRecord {
-        kind: events[at],
-        reg: events[at + 1],
-        byte: events[at + 2],
-    }
+    let txda = u16::from(lines.txda);
+    let txdb = u16::from(lines.txdb);
+    let irq = u16::from(!lines.irq);
+    txda + 2 * txdb + 4 * irq + 8 * u16::from(lines.op)
 }
 
 // After an accepted event. "Events without a tick share the time of the last one; at each time only the last values
@@ -64,16 +46,11 @@ fn add_event(wave: Wave, tick: bool, lines: Lines, space: &mut [u8]) -> Wave
         return Wave {
             tick: wave.tick + 1,
             before: wave.values,
-            values: values,
-            at: at,
+            values,
+            at,
         };
     }
-    Wave {
-        tick: wave.tick,
-        before: wave.before,
-        values: values,
-        at: wave.at,
-    }
+    Wave { values, ..wave }
 }
 
 // The whole text. "It stops before a refused event".
@@ -89,18 +66,15 @@ pub fn write_waves(device: Device, events: &[u8], space: &mut [u8]) -> usize
         at: begun,
     };
     let mut state = device;
-    let count = events.len() / 3;
-    let mut i = 0usize;
-    while i < count {
-        let event = record_at(events, i);
+    let (records, _) = events.as_chunks::<3>();
+    for &[kind, reg, byte] in records {
+        let event = EventRecord { kind, reg, byte };
         let answer = sound_step(state, event_of(event));
         if answer.number != 0 {
             return put_changes(wave.tick, wave.before, wave.values, wave.at, space);
         }
-        wave = add_event(wave, event.kind == 5, answer.lines, space);
-        let next = answer.state;
-        state = next;
-        i += 1;
+        wave = add_event(wave, kind == 5, answer.lines, space);
+        state = answer.state;
     }
     put_changes(wave.tick, wave.before, wave.values, wave.at, space)
 }

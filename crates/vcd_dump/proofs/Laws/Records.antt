@@ -12,8 +12,14 @@ use Rattle.format.specs.Pick.{pick}
 use Rattle.chip_fast.specs.Fast.{is_tick}
 use Rattle.records.specs.declared.records.EventRecord.{EventRecord}
 use Rattle.records.specs.Records.{event_of}
+use Rattle.std.specs.Simd.{first_chunks}
+use Rattle.text.proofs.Laws.Chunks.{piece_byte}
 use Rattle.vcd_dump.specs.Waves.{records_of, events_of}
 use Rattle.vcd_dump.specs.Wave.{record_at}
+
+-- three bytes as a record
+abbrev pub record_of : List ℕ → EventRecord
+record_of piece = record { kind = get_or piece 0 0; reg = get_or piece 1 0; byte = get_or piece 2 0 }
 
 three : (bytes : List ℕ) (n : ℕ) → n + 2 < length bytes
     → drop n bytes ≡ get_or bytes n 0 ∷ get_or bytes (n + 1) 0 ∷ get_or bytes (n + 2) 0 ∷ drop (n + 3) bytes
@@ -54,6 +60,19 @@ records_length (a ∷ b ∷ c ∷ bytes) = let h = records_length bytes in omega
 
 pub events_length : (bytes : List ℕ) → length (events_of bytes) ≡ length bytes / 3
 events_length bytes = length-map (records_of bytes) event_of ∙ records_length bytes
+
+-- the record that a piece of three bytes makes
+pub piece_record : (bytes : List ℕ) (count i : ℕ) (pieces : List (List ℕ)) → pieces ≡ first_chunks 3 count bytes → i < count
+    → record_of (get_or pieces i []) ≡ record_at bytes i
+piece_record bytes count i pieces e h =
+    let first : 3 * i + 0 ≡ 3 * i = omega arith in
+    rw (
+      e,
+      piece_byte 3 count i 0 bytes h (omega arith),
+      piece_byte 3 count i 1 bytes h (omega arith),
+      piece_byte 3 count i 2 bytes h (omega arith),
+      first,
+    )
 
 other_kind : (k r b : ℕ) → 5 < k → is_tick (event_of (record { kind = k; reg = r; byte = b })) ≡ eqb k 5
 unfolding is_tick event_of pick

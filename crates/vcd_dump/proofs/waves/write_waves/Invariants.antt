@@ -1,10 +1,6 @@
 -- `write_waves` meets its contract. The invariant of its loop: what is left of the text leads to the whole. Assumes nothing.
-use Prim.Native.Nat.{◌-◌, ◌≤◌}
 use Rattle.vcd_dump.proofs.Laws.Stands.{Stands}
 use Rattle.vcd_dump.proofs.waves.write_waves.Given as goal
 
-abbrev pub invariant-loop-i : goal.invariant-loop-i
-invariant-loop-i l = (l.i ≤ l.count) × Stands l.events l.initial.space l.initial.wave l.initial.state l.space l.wave l.state l.i
-
-abbrev pub decreases-loop-i : goal.decreases-loop-i
-decreases-loop-i l = l.count - l.i
+abbrev pub invariant-loop-kind : goal.invariant-loop-kind
+invariant-loop-kind l = Stands l.events l.initial.space l.initial.wave l.initial.state l.space l.wave l.state l.kind-index
