@@ -31,13 +31,7 @@ pub fn fresh() -> Device
 pub fn is_sound(device: Device) -> bool
     ensures { result ≡ is_sound_of device }
 {
-    if !front_in_range(device.front) {
-        return false;
-    }
-    if !receiver_is_sound(device.a) {
-        return false;
-    }
-    receiver_is_sound(device.b)
+    front_in_range(device.front) && receiver_is_sound(device.a) && receiver_is_sound(device.b)
 }
 
 // The lines as this state drives them.

@@ -19,122 +19,72 @@ use front_side::Side;
 use outputs::opcr_not_modelled;
 use queue::one_waits;
 use receiver_state::Receiver;
-use sampler_state::Sampler;
+use sampler_state::{ASSEMBLING, Sampler};
 use timer_state::Timer;
 use transmitter_state::Transmitter;
-
-// the sampler's phase of a confirmed start under way
-const ASSEMBLING: u8 = 2;
 
 fn setting_in_range(setting: Setting) -> bool
     ensures { result ≡ setting_in_range setting }
 {
     let width = setting.format.width.0;
-    if width < 5 {
-        return false;
-    }
-    if 8 < width {
-        return false;
-    }
-    setting.format.parity <= 2
+    5 <= width && width <= 8 && setting.format.parity <= 2
 }
 
 fn sampler_in_range(sampler: Sampler) -> bool
     ensures { result ≡ sampler_in_range sampler }
 {
-    if 4 < sampler.phase {
-        return false;
-    }
-    if 15 < sampler.left.0 {
-        return false;
-    }
-    if !setting_in_range(sampler.setting) {
-        return false;
-    }
-    if 9 < sampler.taken.0 {
-        return false;
-    }
-    sampler.value <= 511
+    sampler.phase <= 4
+        && sampler.left.0 <= 15
+        && setting_in_range(sampler.setting)
+        && sampler.taken.0 <= 9
+        && sampler.value <= 511
 }
 
 // "the waiting place used only with three characters held and no confirmed start under way"
 pub fn receiver_is_sound(receiver: Receiver) -> bool
     ensures { result ≡ receiver_sound receiver }
 {
-    if !sampler_in_range(receiver.sampler) {
-        return false;
-    }
-    if 4 < receiver.queue.count {
-        return false;
-    }
-    !one_waits(receiver.queue) | (receiver.sampler.phase != ASSEMBLING)
+    sampler_in_range(receiver.sampler)
+        && receiver.queue.count <= 4
+        && (!one_waits(receiver.queue) | (receiver.sampler.phase != ASSEMBLING))
 }
 
 fn transmitter_in_range(transmitter: Transmitter) -> bool
     ensures { result ≡ transmitter_in_range transmitter }
 {
-    if 3 < transmitter.phase {
-        return false;
-    }
-    if 192 < transmitter.shifter.length.0 {
-        return false;
-    }
-    if 192 < transmitter.shifter.sent.0 {
-        return false;
-    }
-    transmitter.left.0 <= 15
+    transmitter.phase <= 3
+        && transmitter.shifter.length.0 <= 192
+        && transmitter.shifter.sent.0 <= 192
+        && transmitter.left.0 <= 15
 }
 
 fn phases_in_range(phases: Phases) -> bool
     ensures { result ≡ phases_in_range phases }
 {
-    if 4607 < phases.receiver.0 {
-        return false;
-    }
-    if 4607 < phases.transmitter.0 {
-        return false;
-    }
-    phases.sixteenths.0 <= 15
+    phases.receiver.0 <= 4607 && phases.transmitter.0 <= 4607 && phases.sixteenths.0 <= 15
 }
 
 fn timer_in_range(timer: Timer) -> bool
     ensures { result ≡ timer_in_range timer }
 {
-    if 15 < timer.ticks.0 {
-        return false;
-    }
-    timer.edges.0 <= 15
+    timer.ticks.0 <= 15 && timer.edges.0 <= 15
 }
 
 fn side_in_range(side: Side) -> bool
     ensures { result ≡ side_in_range side }
 {
-    if mr1_not_modelled(side.mr1) {
-        return false;
-    }
-    if mr2_not_modelled(side.mr2) {
-        return false;
-    }
-    if !transmitter_in_range(side.transmitter) {
-        return false;
-    }
-    phases_in_range(side.phases)
+    !mr1_not_modelled(side.mr1)
+        && !mr2_not_modelled(side.mr2)
+        && transmitter_in_range(side.transmitter)
+        && phases_in_range(side.phases)
 }
 
 pub fn front_in_range(front: Front) -> bool
     ensures { result ≡ front_in_range front }
 {
-    if !side_in_range(front.a) {
-        return false;
-    }
-    if !side_in_range(front.b) {
-        return false;
-    }
-    if !timer_in_range(front.timer) {
-        return false;
-    }
-    if 15 < front.inputs.changes {
-        return false;
-    }
-    !opcr_not_modelled(front.outputs.opcr)
+    side_in_range(front.a)
+        && side_in_range(front.b)
+        && timer_in_range(front.timer)
+        && front.inputs.changes <= 15
+        && !opcr_not_modelled(front.outputs.opcr)
 }
