@@ -1,5 +1,6 @@
 // One event, one answer.
 ghost use Rattle.std.specs.Prelude.{◌≡◌};
+ghost use Rattle.refusal.specs.Refusal.{number_of};
 ghost use Rattle.chip_step.specs.Chip.{taken_of, refusal_lines, refused_of, accepted_of, step_of};
 
 use chip_answers::{Lines, event_data, event_fresh, no_lines};
@@ -9,6 +10,7 @@ use chip_shown::show_channel;
 use events::Event;
 use front_events::step_front;
 use receiver::feed_receiver;
+use refusal::Refusal;
 
 // "The answer has the number, the data byte (0 where none is read), IRQ (1 when asserted), TxDA, TxDB, the OP0-OP7
 // levels and the new state."; order 1: "The receive buffer read shall also say fresh or stale".
@@ -58,22 +60,22 @@ fn take_event(device: Device, event: Event) -> Taken
 }
 
 // "lines as that state drives them (for 1, all lines 0)"
-fn refusal_lines(device: Device, number: u8) -> Lines
-    ensures { result ≡ refusal_lines device number }
+fn refusal_lines(device: Device, refusal: Refusal) -> Lines
+    ensures { result ≡ refusal_lines device (number_of refusal) }
 {
-    if number == 1 {
-        return no_lines();
+    match refusal {
+        Refusal::StateUnsound => no_lines(),
+        _ => device_lines(device),
     }
-    device_lines(device)
 }
 
 // "Refused: data 0, the state as given"; order 1: "a refused read .. is stale".
-fn refuse(device: Device, number: u8) -> Answer
-    ensures { result ≡ refused_of device number }
+fn refuse(device: Device, refusal: Refusal) -> Answer
+    ensures { result ≡ refused_of device (number_of refusal) }
 {
-    let lines = refusal_lines(device, number);
+    let lines = refusal_lines(device, refusal);
     Answer {
-        number: number,
+        number: refusal.number(),
         byte: 0,
         fresh: false,
         lines: lines,
@@ -98,13 +100,12 @@ fn accept(taken: Taken) -> Answer
 pub fn step(device: Device, event: Event) -> Answer
     ensures { result ≡ step_of device event }
 {
-    let first = first_refusal(device, event);
-    if first == 0 {
-        let taken = take_event(device, event);
-        if is_sound(taken.state) {
-            return accept(taken);
-        }
-        return refuse(device, 7);
+    if let Some(refusal) = first_refusal(device, event) {
+        return refuse(device, refusal);
     }
-    refuse(device, first)
+    let taken = take_event(device, event);
+    if is_sound(taken.state) {
+        return accept(taken);
+    }
+    refuse(device, Refusal::NewStateUnsound)
 }

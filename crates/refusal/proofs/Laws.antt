@@ -1,8 +1,10 @@
 -- The numbers of the rows, written out: what `number_of` is of each, and that none is 0. Assumes nothing.
 use Prim.Native.Nat.{ℕ}
 use mathlib.Core.Path.{◌≡◌, refl}
+use mathlib.Core.Bool.{false}
 use mathlib.Core.List.{List, [], ◌∷◌, map}
 use native.Mathlib.Omega.{arith}
+use lib.Dec.{eqb}
 use Rattle.refusal.specs.declared.refusal.Refusal.{Refusal}
 use Rattle.refusal.specs.declared.refusal.Refusal.TheVariants.{StateUnsound, RegisterAbove15, ReadForbidden, CommandForbidden, SettingNotModelled, AcknowledgeUnasserted, NewStateUnsound, SpaceShort, OverLimit, TextOutside, TimeNotLater}
 use Rattle.refusal.specs.Refusal.{number_of}
@@ -33,3 +35,17 @@ never_0 SpaceShort h = omega arith
 never_0 OverLimit h = omega arith
 never_0 TextOutside h = omega arith
 never_0 TimeNotLater h = omega arith
+
+-- 1 is the first row's alone
+pub other_rows : (refusal : Refusal) → (refusal ≡ StateUnsound → ⊥) → eqb (number_of refusal) 1 ≡ false
+other_rows StateUnsound h = absurd (h refl)
+other_rows RegisterAbove15 h = refl
+other_rows ReadForbidden h = refl
+other_rows CommandForbidden h = refl
+other_rows SettingNotModelled h = refl
+other_rows AcknowledgeUnasserted h = refl
+other_rows NewStateUnsound h = refl
+other_rows SpaceShort h = refl
+other_rows OverLimit h = refl
+other_rows TextOutside h = refl
+other_rows TimeNotLater h = refl
