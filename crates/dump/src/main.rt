@@ -6,6 +6,7 @@ ghost use Rattle.std.specs.Prelude.{◌≤◌};
 
 use chip_device::fresh;
 use events::Event;
+use input_bytes::InputBytes;
 use records::EventRecord;
 use replay_script::{Line, Place, first_place, next_line, next_place, tell};
 use replay_text::write_error;
@@ -18,12 +19,6 @@ use vcd_dump::dump;
 struct Run {
     place: Place,
     count: usize,
-}
-
-#[derive(Clone, Copy)]
-struct Turn {
-    run: Run,
-    more: bool,
 }
 
 // One more than a list may have: how many there are past it makes no difference.
@@ -114,7 +109,7 @@ fn end_line(errors: &impl Print, run: Run, events: &mut [u8]) -> Run {
 }
 
 fn take_byte(errors: &impl Print, run: Run, byte: u8, events: &mut [u8]) -> Run {
-    if byte == 10 {
+    if byte == b'\n' {
         return end_line(errors, run, events);
     }
     Run {
@@ -123,49 +118,19 @@ fn take_byte(errors: &impl Print, run: Run, byte: u8, events: &mut [u8]) -> Run 
     }
 }
 
-fn take_bytes(errors: &impl Print, run: Run, bytes: &[u8], events: &mut [u8]) -> Run {
-    let mut now = run;
-    let mut i = 0;
-    while i < bytes.len() {
-        now = take_byte(errors, now, bytes[i], events);
-        i += 1;
-    }
-    now
-}
-
-// A read that fails ends the input.
-fn take_chunk(errors: &impl Print, input: &mut impl Read, run: Run, events: &mut [u8]) -> Turn {
-    let mut chunk = [0u8; 4096];
-    let length = input.read(&mut chunk).unwrap_or(0);
-    let next = take_bytes(errors, run, &chunk[..length], events);
-    Turn {
-        run: next,
-        more: length > 0,
-    }
-}
-
-// A proved loop must end: no input has more chunks than this counts. A last line with no line end counts, unless it
-// is empty.
-fn take_all(errors: &impl Print, input: &mut impl Read, events: &mut [u8]) -> usize {
-    let mut turn = Turn {
-        run: Run {
-            place: first_place(),
-            count: 0,
-        },
-        more: true,
+// A last line with no line end counts, unless it is empty.
+fn take_all(errors: &impl Print, input: impl Read + Drop, events: &mut [u8]) -> usize {
+    let mut run = Run {
+        place: first_place(),
+        count: 0,
     };
-    let mut turns = u64::MAX;
-    while turns > 0 && turn.more {
-        let now = turn.run;
-        turn = take_chunk(errors, input, now, events);
-        turns -= 1;
+    for byte in InputBytes::new(input) {
+        run = take_byte(errors, run, byte, events);
     }
-    let last = turn.run;
-    if last.place.begun {
-        let ended = end_line(errors, last, events);
-        return ended.count;
+    if run.place.begun {
+        run = end_line(errors, run, events);
     }
-    last.count
+    run.count
 }
 
 // How many bytes the events take, of those that there are.
@@ -191,7 +156,7 @@ fn refuse(errors: &impl Print, number: u8) {
 fn show(
     output: &impl Print,
     errors: &impl Print,
-    input: &mut impl Read,
+    input: impl Read + Drop,
     events: &mut [u8],
     space: &mut [u8],
 ) {
@@ -209,7 +174,7 @@ fn show(
 fn lend(
     output: &impl Print,
     errors: &impl Print,
-    input: &mut impl Read,
+    input: impl Read + Drop,
     events: &mut [u8; 3000003],
     space: &mut [u8; 2097152],
 ) {
@@ -219,8 +184,7 @@ fn lend(
 // The limits: 1,000,000 events, and one more so that it can be refused, and 2,097,152 bytes of text.
 fn main(rt: HostRuntime) {
     let errors = rt.stderr();
-    let mut input = rt.stdin();
     let mut events = [0u8; 3000003];
     let mut space = [0u8; 2097152];
-    lend(&rt, &errors, &mut input, &mut events, &mut space);
+    lend(&rt, &errors, rt.stdin(), &mut events, &mut space);
 }

@@ -6,22 +6,16 @@ use chip_device::{Device, fresh};
 use chip_fast::at_rest;
 use chip_step::{Answer, step};
 use chip_ticks::tick_times;
+use input_bytes::InputBytes;
 use records::seen_of;
 use replay_script::{Line, Place, first_place, next_line, next_place, tell};
 use replay_text::{write_error, write_seen};
-use std::io::Read;
 
 // The device so far, and where in the script we are.
 #[derive(Clone, Copy)]
 struct Run {
     device: Device,
     place: Place,
-}
-
-#[derive(Clone, Copy)]
-struct Turn {
-    run: Run,
-    more: bool,
 }
 
 fn print_answer(rt: &impl Print, answer: Answer) -> Device {
@@ -62,7 +56,7 @@ fn end_line(rt: &impl Print, run: Run) -> Run {
 }
 
 fn take_byte(rt: &impl Print, run: Run, byte: u8) -> Run {
-    if byte == 10 {
+    if byte == b'\n' {
         return end_line(rt, run);
     }
     let device = run.device;
@@ -73,53 +67,15 @@ fn take_byte(rt: &impl Print, run: Run, byte: u8) -> Run {
     }
 }
 
-fn take_bytes(rt: &impl Print, run: Run, bytes: &[u8]) -> Run {
-    let mut now = run;
-    let mut i = 0;
-    while i < bytes.len() {
-        now = take_byte(rt, now, bytes[i]);
-        i += 1;
-    }
-    now
-}
-
-// A read that fails ends the input.
-fn take_chunk(rt: &impl Print, input: &mut impl Read, run: Run) -> Turn {
-    let mut chunk = [0u8; 4096];
-    let length = input.read(&mut chunk).unwrap_or(0);
-    let next = take_bytes(rt, run, &chunk[..length]);
-    Turn {
-        run: next,
-        more: length > 0,
-    }
-}
-
-// A proved loop must end: no input has more chunks than this counts.
-fn take_all(rt: &impl Print, input: &mut impl Read, run: Run) -> Run {
-    let mut turn = Turn {
-        run: run,
-        more: true,
-    };
-    let mut turns = u64::MAX;
-    while turns > 0 && turn.more {
-        let now = turn.run;
-        turn = take_chunk(rt, input, now);
-        turns -= 1;
-    }
-    turn.run
-}
-
 // A last line with no line end counts, unless it is empty.
 fn main(rt: HostRuntime) {
-    let mut input = rt.stdin();
-    let run = take_all(
-        &rt,
-        &mut input,
-        Run {
-            device: fresh(),
-            place: first_place(),
-        },
-    );
+    let mut run = Run {
+        device: fresh(),
+        place: first_place(),
+    };
+    for byte in InputBytes::new(rt.stdin()) {
+        run = take_byte(&rt, run, byte);
+    }
     if run.place.begun {
         end_line(&rt, run);
     }

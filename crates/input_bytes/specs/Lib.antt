@@ -1,0 +1,2 @@
+-- What the clauses say.
+pub mod Input

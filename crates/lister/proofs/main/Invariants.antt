@@ -1,8 +1,0 @@
--- `main` is safe and ends: the reads still to make grow fewer. Assumes nothing.
-use Rattle.lister.proofs.main.Given as goal
-
-abbrev pub invariant-loop-turns : goal.invariant-loop-turns
-invariant-loop-turns l = Unit {0}
-
-abbrev pub decreases-loop-turns : goal.decreases-loop-turns
-decreases-loop-turns l = l.turns

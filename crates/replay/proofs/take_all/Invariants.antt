@@ -1,8 +1,0 @@
--- `take_all` is safe and ends: the turns that are left grow fewer. Assumes nothing.
-use Rattle.replay.proofs.take_all.Given as goal
-
-abbrev pub invariant-loop-turns : goal.invariant-loop-turns
-invariant-loop-turns g l = Unit {0}
-
-abbrev pub decreases-loop-turns : goal.decreases-loop-turns
-decreases-loop-turns g l = l.turns
