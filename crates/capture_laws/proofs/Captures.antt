@@ -8,7 +8,7 @@ use native.Mathlib.Omega.{arith}
 use lib.Dec.{ltb}
 use lib.ListN.{length, drop, get_or}
 use borrow.Author.Tests.{ne_eqb, le-ltb, ltb-false, leb-true, leb-false}
-use Rattle.std.specs.Prelude.{Some}
+use Rattle.std.specs.Prelude.{Some, Ok, Err}
 use Rattle.format.specs.Pick.{pick}
 use Rattle.format.specs.Format.{mr1_not_modelled, format_of}
 use Rattle.feed.specs.declared.feed.Setting.{Setting}
@@ -21,10 +21,11 @@ use Rattle.vcd_text.specs.Time.{time_of}
 use Rattle.vcd_text.specs.Lines.{Line, lines_text, times_of, RisesFrom}
 use Rattle.vcd_text.specs.Lines.Line.{Time, Value}
 use Rattle.vcd_read.specs.declared.checking.Times.{Times}
+use Rattle.vcd_read.specs.declared.scanning.Refusal.TheVariants.{TimeNotLater}
 use Rattle.vcd_read.specs.declared.scanning.Scanned.{Scanned}
 use Rattle.vcd_lines.specs.Body.{started}
 use Rattle.vcd_read.specs.Wires.{has_code}
-use Rattle.vcd_read.specs.Scan.{no_times, time_added, times_from, refused_by, scan_of}
+use Rattle.vcd_read.specs.Scan.{no_times, time_added, times_from, scan_of, scan_number, found_in}
 use Rattle.vcd_lines.proofs.Laws.Reads.{readable}
 use Rattle.vcd_subset.specs.Subset.{Named, Says}
 use Rattle.vcd_subset.proofs.Header.{header-left}
@@ -156,11 +157,11 @@ module _ (q : Asked) (text a b : List ℕ) where
   is-five room_a room_b h = rw (not-modelled h)
 
   module _ (m : Modelled q) (room_a room_b : ℕ) where
-    is-refused : (n : ℕ) → (scan_of text a b).number ≡ n → (n ≡ 0 → ⊥) → number_of q text a b room_a room_b ≡ n
+    is-refused : (n : ℕ) → scan_number (scan_of text a b) ≡ n → (n ≡ 0 → ⊥) → number_of q text a b room_a room_b ≡ n
     unfolding capture_refusal pick
     is-refused n e z = rw (modelled-is m, e, ne_eqb n 0 z)
 
-    is-fitted : (t : Bool) → (scan_of text a b).number ≡ 0 → (ltb room_a (length (log_a q text a b)) || ltb room_b (length (log_b q text a b))) ≡ t
+    is-fitted : (t : Bool) → scan_number (scan_of text a b) ≡ 0 → (ltb room_a (length (log_a q text a b)) || ltb room_b (length (log_b q text a b))) ≡ t
         → number_of q text a b room_a room_b ≡ pick t 8 0
     unfolding capture_refusal pick
     is-fitted t e s = rw (modelled-is m, e, s)
@@ -169,17 +170,17 @@ module _ (q : Asked) (text a b : List ℕ) where
 
 module _ (text a b : List ℕ) (ws : List Wire) (ls : List Line) (ca cb : ℕ) (says : Says text ws ls) (na : Named ws a ca) (nb : Named ws b cb) where
   abbrev accepted : Scanned
-  accepted = record { number = 0; code_a = ca; code_b = cb; body = length (header_of ws); times = times_from no_times ls }
+  accepted = record { code_a = ca; code_b = cb; body = length (header_of ws); times = times_from no_times ls }
 
-  in_time : RisesFrom 0 (times_of ls) → scan_of text a b ≡ accepted
+  in_time : RisesFrom 0 (times_of ls) → scan_of text a b ≡ Ok accepted
   unfolding pick
   in_time r = taken text a b ws ls says ca cb na nb ∙ rw (rises_in_time ls r)
 
-  too-late : (RisesFrom 0 (times_of ls) → ⊥) → scan_of text a b ≡ refused_by 11
+  too-late : (RisesFrom 0 (times_of ls) → ⊥) → scan_of text a b ≡ Err TimeNotLater
   unfolding pick
   too-late n = taken text a b ws ls says ca cb na nb ∙ go (times_from no_times ls).late refl
     where
-      go : (t : Bool) → (times_from no_times ls).late ≡ t → pick t (refused_by 11) accepted ≡ refused_by 11
+      go : (t : Bool) → (times_from no_times ls).late ≡ t → pick t (Err TimeNotLater) (Ok accepted) ≡ Err TimeNotLater
       go true e = refl
       go false e = absurd (n (in_time_rises ls e))
 
@@ -192,6 +193,7 @@ module _ (text a b : List ℕ) (ws : List Wire) (ls : List Line) (ca cb : ℕ) (
 
   log_is : (q : Asked) → RisesFrom 0 (times_of ls)
       → (log_a q text a b ≡ log_bytes (heard_on q ca)) × (log_b q text a b ≡ log_bytes (heard_on q cb))
+  unfolding found_in
   log_is q r = (rw (in_time r, lines_left), rw (in_time r, lines_left))
 
   is-logged : (q : Asked) (code : ℕ) → Modelled q → RisesFrom 0 (times_of ls)
@@ -232,18 +234,18 @@ not_fitting x m y n h = go (ltb m x) refl (ltb n y) refl
     go false e false d = absurd (h (ltb-false m x e, ltb-false n y d))
 
 pub captures : Captures number_of log_on
-unfolding pick
+unfolding pick scan_number
 captures =
     record {
       five = is-five;
       ten = λ q text a b room_a room_b m none.
-          is-refused q text a b m room_a room_b 10 (ap (λ (s : Scanned). s.number) (outside text a b none)) (λ (z : ◌≡◌ {A = ℕ} 10 0). omega arith);
+          is-refused q text a b m room_a room_b 10 (ap scan_number (outside text a b none)) (λ (z : ◌≡◌ {A = ℕ} 10 0). omega arith);
       eleven = λ q text a b room_a room_b m ws ls ca cb says na nb late.
-          is-refused q text a b m room_a room_b 11 (ap (λ (s : Scanned). s.number) (too-late text a b ws ls ca cb says na nb late)) (λ (z : ◌≡◌ {A = ℕ} 11 0). omega arith);
+          is-refused q text a b m room_a room_b 11 (ap scan_number (too-late text a b ws ls ca cb says na nb late)) (λ (z : ◌≡◌ {A = ℕ} 11 0). omega arith);
       eight = λ q text a b room_a room_b m ws ls ca cb says na nb r short.
-          is-fitted q text a b m room_a room_b true (ap (λ (s : Scanned). s.number) (in_time text a b ws ls ca cb says na nb r)) (not_fitting _ _ _ _ short);
+          is-fitted q text a b m room_a room_b true (ap scan_number (in_time text a b ws ls ca cb says na nb r)) (not_fitting _ _ _ _ short);
       none = λ q text a b room_a room_b m ws ls ca cb says na nb r fa fb.
-          is-fitted q text a b m room_a room_b false (ap (λ (s : Scanned). s.number) (in_time text a b ws ls ca cb says na nb r))
+          is-fitted q text a b m room_a room_b false (ap scan_number (in_time text a b ws ls ca cb says na nb r))
           (neither _ _ (le-ltb _ _ fa) (le-ltb _ _ fb));
       hears = is_heard;
     }

@@ -10,8 +10,10 @@ use Rattle.feed.specs.declared.feed.Setting.{Setting}
 use Rattle.sampler.specs.Lines as Hearing
 use Rattle.vcd_text.specs.Time.{time_of}
 use Rattle.vcd_text.specs.Lines.Line.{Time, Value}
-use Rattle.std.specs.Prelude.{None, Some}
+use Rattle.std.specs.Prelude.{None, Some, Result, Ok, Err}
 use Rattle.vcd_read.specs.declared.checking.Times.{Times}
+use Rattle.vcd_read.specs.declared.scanning.Refusal.{Refusal}
+use Rattle.vcd_read.specs.declared.scanning.Refusal.TheVariants.{OutsideSubset, TimeNotLater}
 use Rattle.vcd_read.specs.declared.scanning.Scanned.{Scanned}
 use Rattle.vcd_capture.specs.declared.capturing.Asked.{Asked}
 use Rattle.vcd_capture.specs.declared.capturing.Captured.{Captured}
@@ -197,16 +199,18 @@ pub order : (number (coded 13) (late ++ "x" ∷ []) 0 0 ≡ 5)
 unfolding capturing
 order = (refl, refl, refl, refl, refl, refl)
 
--- the same of any text with this number, and of any characters: these need two bytes each, and there is none
-abbrev texts : ℕ → Scanned
-texts n =
-    record { number = n; code_a = 33; code_b = 34; body = 129; times = last 5 }
+-- the same of any text with this answer, and of any characters: these need two bytes each, and there is none
+abbrev inside : Result Scanned Refusal
+inside = Ok (record { code_a = 33; code_b = 34; body = 129; times = last 5 })
 
-pub order_of_tests : (map (λ (n : ℕ). capture_refusal (coded 13) (texts n) 2 2 0 0) (0 ∷ 10 ∷ 11 ∷ []) ≡ 5 ∷ 5 ∷ 5 ∷ [])
-    × (map (λ (n : ℕ). capture_refusal (coded 12) (texts n) 2 2 0 0) (0 ∷ 10 ∷ 11 ∷ []) ≡ 8 ∷ 10 ∷ 11 ∷ [])
-    × (capture_refusal (coded 12) (texts 0) 2 2 2 1 ≡ 8)
-    × (capture_refusal (coded 12) (texts 0) 2 2 1 2 ≡ 8)
-    × (capture_refusal (coded 12) (texts 0) 2 2 2 2 ≡ 0)
+abbrev texts : List (Result Scanned Refusal)
+texts = inside ∷ Err OutsideSubset ∷ Err TimeNotLater ∷ []
+
+pub order_of_tests : (map (λ (s : Result Scanned Refusal). capture_refusal (coded 13) s 2 2 0 0) texts ≡ 5 ∷ 5 ∷ 5 ∷ [])
+    × (map (λ (s : Result Scanned Refusal). capture_refusal (coded 12) s 2 2 0 0) texts ≡ 8 ∷ 10 ∷ 11 ∷ [])
+    × (capture_refusal (coded 12) inside 2 2 2 1 ≡ 8)
+    × (capture_refusal (coded 12) inside 2 2 1 2 ≡ 8)
+    × (capture_refusal (coded 12) inside 2 2 2 2 ≡ 0)
 unfolding capturing
 order_of_tests = (refl, refl, refl, refl, refl)
 

@@ -1,16 +1,17 @@
 -- Order 7: "Customers send value change dumps of the real chip's two RxD lines. .. Turn each line, up to the last time, into
 -- characters by document 01's receiver, just enabled, phase 0, for a given MR1, ACR bit 7 and CSR code 0 to 12." Assumes
 -- nothing.
-use Rattle.std.specs.Prelude.{ℕ, ◌+◌, ◌≡◌, Bool, true, ◌||◌, List, [], ◌++◌, eqb, ltb, length, drop, Option, None, Some}
+use Rattle.std.specs.Prelude.{ℕ, ◌+◌, ◌≡◌, Bool, true, ◌||◌, List, [], ◌++◌, eqb, ltb, length, drop, Option, None, Some, Result}
 use Rattle.format.specs.Pick.{pick}
 use Rattle.format.specs.Format.{mr1_not_modelled, format_of}
 use Rattle.feed.specs.declared.feed.Setting.{Setting}
 use Rattle.character.specs.declared.character.Character.{Character}
 use Rattle.dividers.specs.Rates.{period_of}
 use Rattle.vcd_read.specs.declared.checking.Times.{Times}
+use Rattle.vcd_read.specs.declared.scanning.Refusal.{Refusal}
 use Rattle.vcd_read.specs.declared.scanning.Scanned.{Scanned}
 use Rattle.vcd_lines.specs.Body.{started}
-use Rattle.vcd_read.specs.Scan.{scan_of}
+use Rattle.vcd_read.specs.Scan.{scan_of, scan_number, found_in}
 use Rattle.vcd_capture.specs.declared.capturing.Asked.{Asked}
 use Rattle.vcd_capture.specs.declared.capturing.Captured.{Captured}
 use Rattle.vcd_capture.specs.Logs.{log_bytes}
@@ -38,17 +39,17 @@ abbrev pub log_of : Asked → List ℕ → Scanned → ℕ → List ℕ
 log_of q text s wire = log_bytes (characters_of q text s wire)
 
 -- "Refusals, in this order: 5 (a code above 12 too), 10 .., 11 .., 8 either log too short"
-unfoldable pub capture_refusal : Asked → Scanned → ℕ → ℕ → ℕ → ℕ → ℕ
+unfoldable pub capture_refusal : Asked → Result Scanned Refusal → ℕ → ℕ → ℕ → ℕ → ℕ
 capture_refusal q s a b room_a room_b =
     pick (mr1_not_modelled q.mr1 || ltb 12 q.code) 5
-    (pick (eqb s.number 0) (pick (ltb room_a a || ltb room_b b) 8 0) s.number)
+    (pick (eqb (scan_number s) 0) (pick (ltb room_a a || ltb room_b b) 8 0) (scan_number s))
 
 -- the call: what it asks for, the text, the two names and the two logs' lengths
 abbrev pub log_a : Asked → List ℕ → List ℕ → List ℕ → List ℕ
-log_a q text a b = log_of q text (scan_of text a b) (scan_of text a b).code_a
+log_a q text a b = log_of q text (found_in (scan_of text a b)) (found_in (scan_of text a b)).code_a
 
 abbrev pub log_b : Asked → List ℕ → List ℕ → List ℕ → List ℕ
-log_b q text a b = log_of q text (scan_of text a b) (scan_of text a b).code_b
+log_b q text a b = log_of q text (found_in (scan_of text a b)) (found_in (scan_of text a b)).code_b
 
 abbrev pub number_of : Asked → List ℕ → List ℕ → List ℕ → ℕ → ℕ → ℕ
 number_of q text a b room_a room_b =

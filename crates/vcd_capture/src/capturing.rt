@@ -1,12 +1,13 @@
 // Order 7: "Read a capture from the mill."
 ghost use Rattle.std.specs.Prelude.{◌^◌, ◌<◌, ◌≡◌, length};
+ghost use Rattle.vcd_read.specs.Scan.{refusal_number};
 ghost use Rattle.vcd_capture.specs.Capture.{setting_of, end_of, CaptureMet, handed_of};
 
 use crate::ear::hear_wire;
 use dividers::period_of;
 use feed::Setting;
 use format::{format_of, mr1_not_modelled};
-use vcd_read::{Times, scan};
+use vcd_read::{Refusal, Times, scan};
 
 // "for a given MR1, ACR bit 7 and CSR code 0 to 12"
 #[derive(Clone, Copy)]
@@ -52,6 +53,15 @@ fn refuse(number: u8) -> Captured
     }
 }
 
+fn refusal_number(refusal: Refusal) -> u8
+    ensures { result ≡ refusal_number refusal }
+{
+    match refusal {
+        Refusal::OutsideSubset => 10,
+        Refusal::TimeNotLater => 11,
+    }
+}
+
 // "There are two lent logs, one per channel": both are filled, or neither. The characters are heard into no log first, which
 // counts them.
 pub fn read_capture(
@@ -68,10 +78,10 @@ pub fn read_capture(
     if mr1_not_modelled(asked.mr1) | (12 < asked.code) {
         return refuse(5);
     }
-    let found = scan(text, name_a, name_b);
-    if found.number != 0 {
-        return refuse(found.number);
-    }
+    let found = match scan(text, name_a, name_b) {
+        Ok(found) => found,
+        Err(refusal) => return refuse(refusal_number(refusal)),
+    };
     let at = found.body;
     let period = period_of(asked.acr7, asked.code);
     let setting = setting_of(asked.mr1);

@@ -10,4 +10,4 @@ mod scanning;
 mod wires;
 
 pub use checking::Times;
-pub use scanning::{Scanned, scan};
+pub use scanning::{Refusal, Scanned, scan};

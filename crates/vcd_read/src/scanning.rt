@@ -1,6 +1,6 @@
 // A whole text.
-ghost use Rattle.std.specs.Prelude.{◌≤◌, ◌≡◌, length, IfSome};
-ghost use Rattle.vcd_read.specs.Scan.{few, header_read, refused_by, judged, scan_of};
+ghost use Rattle.std.specs.Prelude.{◌≤◌, ◌≡◌, length, IfSome, IfOk};
+ghost use Rattle.vcd_read.specs.Scan.{few, header_read, judged, scan_of};
 
 use crate::checking::{Checked, Times, check};
 use crate::named::{code_named, codes_of, twice};
@@ -15,14 +15,20 @@ pub struct Header {
     pub body: usize,
 }
 
-// What is known of a text, or why it is refused.
+// What is known of a text.
 #[derive(Clone, Copy)]
 pub struct Scanned {
-    pub number: u8,
     pub code_a: u8,
     pub code_b: u8,
     pub body: usize,
     pub times: Times,
+}
+
+// Why a text is refused: "text outside the subset or a named wire missing", or "a time not later than the one before".
+#[derive(Clone, Copy, Debug, PartialEq, Eq)]
+pub enum Refusal {
+    OutsideSubset,
+    TimeNotLater,
 }
 
 fn is_few(count: usize) -> bool
@@ -56,50 +62,30 @@ fn read_header(text: &[u8], name_a: &[u8], name_b: &[u8]) -> Option<Header>
     })
 }
 
-fn refuse(number: u8) -> Scanned
-    ensures { result ≡ refused_by number }
-{
-    Scanned {
-        number: number,
-        code_a: 0,
-        code_b: 0,
-        body: 0,
-        times: Times {
-            last: None,
-            late: false,
-        },
-    }
-}
-
 // A text inside ends with a line's end.
-fn judge(header: Header, checked: Checked) -> Scanned
+fn judge(header: Header, checked: Checked) -> Result<Scanned, Refusal>
     ensures { result ≡ judged header checked }
 {
-    if checked.reading.place == LINE_START {
-        let times = checked.times;
-        if times.late {
-            return refuse(11);
-        }
-        return Scanned {
-            number: 0,
-            code_a: header.code_a,
-            code_b: header.code_b,
-            body: header.body,
-            times: times,
-        };
+    if checked.reading.place != LINE_START {
+        return Err(Refusal::OutsideSubset);
     }
-    refuse(10)
+    if checked.times.late {
+        return Err(Refusal::TimeNotLater);
+    }
+    Ok(Scanned {
+        code_a: header.code_a,
+        code_b: header.code_b,
+        body: header.body,
+        times: checked.times,
+    })
 }
 
 // "10 text outside the subset or a named wire missing, 11 a time not later than the one before"
-pub fn scan(text: &[u8], name_a: &[u8], name_b: &[u8]) -> Scanned
-    ensures { (result ≡ scan_of text.now name_a.now name_b.now)
-        × (result.body ≤ length text.now) }
+pub fn scan(text: &[u8], name_a: &[u8], name_b: &[u8]) -> Result<Scanned, Refusal>
+    ensures scanned { result ≡ scan_of text.now name_a.now name_b.now }
+    ensures within { IfOk result (λ s. s.body ≤ length text.now) }
 {
-    let Some(header) = read_header(text, name_a, name_b) else {
-        return refuse(10);
-    };
+    let header = read_header(text, name_a, name_b).ok_or(Refusal::OutsideSubset)?;
     let codes = codes_of(wires_in(text));
-    let checked = check(&text[header.body..], &codes);
-    judge(header, checked)
+    judge(header, check(&text[header.body..], &codes))
 }

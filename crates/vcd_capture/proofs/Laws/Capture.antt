@@ -8,6 +8,7 @@ use lib.Dec.{eqb, ltb}
 use lib.ListN.{length, take, drop}
 use lib.Seq.{take-append_seam}
 use borrow.Author.Tests.{eq-eqb, ne_eqb, ltb-false}
+use Rattle.std.specs.Prelude.{Ok}
 use Rattle.format.specs.Pick.{pick}
 use Rattle.format.specs.Format.{mr1_not_modelled}
 use Rattle.format.specs.declared.counts.Ticks.{Ticks}
@@ -17,7 +18,7 @@ use Rattle.text.specs.Puts.{Puts}
 use Rattle.text.proofs.Laws.Puts.{puts_whole}
 use Rattle.vcd_read.specs.declared.scanning.Scanned.{Scanned}
 use Rattle.vcd_lines.specs.Body.{started}
-use Rattle.vcd_read.specs.Scan.{scan_of}
+use Rattle.vcd_read.specs.Scan.{scan_of, scan_number, found_in}
 use Rattle.vcd_capture.specs.declared.capturing.Asked.{Asked}
 use Rattle.vcd_capture.specs.declared.capturing.Captured.{Captured}
 use Rattle.vcd_capture.specs.Logs.{log_bytes}
@@ -34,10 +35,11 @@ from_start h = omega arith
 
 -- what is heard of a wire, with what the code has worked out
 pub heard_is : (q : Asked) (text a b : List ℕ) (p : Ticks) (f : Setting) (end : ℕ) (s : Scanned) → p ≡ period_of q.acr7 q.code → f ≡ setting_of q.mr1
-    → end ≡ end_of s.times → s ≡ scan_of text a b
+    → end ≡ end_of s.times → Ok s ≡ scan_of text a b
     → (log_bytes (heard_from p.0 f s.code_a end started just_enabled (drop s.body text)) ≡ log_a q text a b)
     × (log_bytes (heard_from p.0 f s.code_b end started just_enabled (drop s.body text)) ≡ log_b q text a b)
-heard_is q text a b p f end s ep ef ee es = (rw (ep, ef, ee, es), rw (ep, ef, ee, es))
+unfolding found_in
+heard_is q text a b p f end s ep ef ee es = (rw (ep, ef, ee, ← es), rw (ep, ef, ee, ← es))
 
 module _ (q : Asked) (text a b la lb : List ℕ) where
   abbrev number : ℕ
@@ -48,11 +50,11 @@ module _ (q : Asked) (text a b la lb : List ℕ) where
   five e = rw e
 
   module _ (m : (mr1_not_modelled q.mr1 || ltb 12 q.code) ≡ false) where
-    pub by-text : ((scan_of text a b).number ≡ 0 → ⊥) → number ≡ (scan_of text a b).number
+    pub by-text : (scan_number (scan_of text a b) ≡ 0 → ⊥) → number ≡ scan_number (scan_of text a b)
     unfolding capture_refusal pick
     by-text e = rw (m, ne_eqb _ 0 e)
 
-    module _ (s : (scan_of text a b).number ≡ 0) where
+    module _ (s : scan_number (scan_of text a b) ≡ 0) where
       pub eight : (ltb (length la) (length (log_a q text a b)) || ltb (length lb) (length (log_b q text a b))) ≡ true → number ≡ 8
       unfolding capture_refusal pick
       eight e = rw (m, eq-eqb _ 0 s, e)
