@@ -10,8 +10,8 @@ slice_bounds-put_lines-end c =
     let met = met_as c.in-Ok.is c.read_capture.ensures in
     front_within _ _ (filled-a _ _ _ _ _ _ _ _ _ met).1
 
-pub slice_bounds-put_lines-end-2 : goal.slice_bounds-put_lines-end-2
-slice_bounds-put_lines-end-2 c =
+pub slice_bounds-put_lines-end-in-Ok : goal.slice_bounds-put_lines-end-in-Ok
+slice_bounds-put_lines-end-in-Ok c =
     let met = met_as c.in-Ok.is c.read_capture.ensures in
     (filled-a _ _ _ _ _ _ _ _ _ met).1
 
@@ -20,13 +20,13 @@ put_lines-after_a-requires c =
     let read = c.read_capture in
     part_fits c.in-Ok.captured.length_a read.new.log_a (omega arith) read.auto.log_a c.requires.0
 
-pub slice_bounds-put_lines-end-3 : goal.slice_bounds-put_lines-end-3
-slice_bounds-put_lines-end-3 c =
+pub slice_bounds-put_lines-end-in-Ok-2 : goal.slice_bounds-put_lines-end-in-Ok-2
+slice_bounds-put_lines-end-in-Ok-2 c =
     let met = met_as c.in-Ok.is c.read_capture.ensures in
     front_within _ _ (filled-b _ _ _ _ _ _ _ _ _ met).1
 
-pub slice_bounds-put_lines-end-4 : goal.slice_bounds-put_lines-end-4
-slice_bounds-put_lines-end-4 c =
+pub slice_bounds-put_lines-end-in-Ok-3 : goal.slice_bounds-put_lines-end-in-Ok-3
+slice_bounds-put_lines-end-in-Ok-3 c =
     let met = met_as c.in-Ok.is c.read_capture.ensures in
     (filled-b _ _ _ _ _ _ _ _ _ met).1
 
