@@ -1,21 +1,25 @@
 -- The laws of a word that spells a number, of the lines of a log, and of what is said of a capture. Assumes nothing.
 use Prim.Native.Nat.{ℕ, zero, suc, ◌+◌, ◌*◌, ◌^◌, ◌≤◌, ◌<◌}
-use mathlib.Core.Path.{◌≡◌, refl, sym, ◌∙◌, ap}
+use mathlib.Core.Path.{◌≡◌, refl}
 use mathlib.Core.List.{List, [], ◌∷◌, ◌++◌}
 use native.Mathlib.Numerals.{add-one}
 use native.Mathlib.Omega.{arith}
 use lib.ListN.{length, take, drop, get_or, length-append, length-take}
 use lib.Seq.{drop-cons}
 use borrow.Author.Tests.{ne_eqb}
+use Rattle.std.specs.Prelude.{Ok, Err}
 use Rattle.format.specs.Pick.{pick}
 use Rattle.text.specs.Bytes.{bytes_of}
 use Rattle.text.specs.Puts.{Puts}
 use Rattle.text.proofs.Laws.Decimal.{decimal_within}
 use Rattle.text.specs.Numbers.{number_after, number_from}
+use Rattle.refusal.specs.declared.refusal.Refusal.{Refusal}
+use Rattle.refusal.specs.Refusal as Refusals
+use Rattle.refusal.proofs.Laws.{never_0}
 use Rattle.vcd_capture.specs.declared.capturing.Asked.{Asked}
 use Rattle.vcd_capture.specs.declared.capturing.Captured.{Captured}
-use Rattle.vcd_capture.specs.Capture.{number_of, captured_of, handed_of, CaptureMet}
-use Rattle.vcd_capture.proofs.Laws.Capture.{part-a, part-b}
+use Rattle.vcd_capture.specs.Capture.{CaptureMet}
+use Rattle.vcd_capture.proofs.Laws.Capture.{accepts, refuses, filled-a, filled-b}
 use Rattle.capture.specs.Arguments.{spelled}
 use Rattle.capture.specs.Lines.{character_line, character_lines}
 use Rattle.capture.specs.Said.{refused_text, printed_of}
@@ -105,19 +109,15 @@ refused_ends n h p =
     let m : length (refused_text n) ≤ 12 = simp length-append (omega arith) in
     omega (arith, p.ends)
 
-module _ (q : Asked) (text a b la lb ta tb : List ℕ) (r : Captured) (met : CaptureMet q text a b la lb ta tb r) where
-  told : r.number ≡ number_of q text a b (length la) (length lb)
-  unfolding captured_of
-  told = ap (λ (x : Captured). x.number) met.answer
-
-  pub said-lines : r.number ≡ 0
-      → character_lines 65 (take r.length_a ta) ++ character_lines 66 (take r.length_b tb)
+module _ (q : Asked) (text a b la lb ta tb : List ℕ) where
+  pub said-lines : (x : Captured) → CaptureMet q text a b la lb ta tb (Ok x)
+      → character_lines 65 (take x.length_a ta) ++ character_lines 66 (take x.length_b tb)
       ≡ printed_of q text a b (length la) (length lb)
-  unfolding printed_of handed_of pick
-  said-lines h =
-      let e : number_of q text a b (length la) (length lb) ≡ 0 = sym told ∙ h in
-      rw ((part-a q text a b la lb ta tb r met).0, (part-b q text a b la lb ta tb r met).0, e)
-
-  pub said-refused : (r.number ≡ 0 → ⊥) → refused_text r.number ≡ printed_of q text a b (length la) (length lb)
   unfolding printed_of pick
-  said-refused h = rw (sym told, ne_eqb _ 0 h)
+  said-lines x met =
+      rw ((filled-a q text a b la lb ta tb x met).0, (filled-b q text a b la lb ta tb x met).0, accepts q text a b la lb ta tb x met)
+
+  pub said-refused : (x : Refusal) → CaptureMet q text a b la lb ta tb (Err x)
+      → refused_text (Refusals.number_of x) ≡ printed_of q text a b (length la) (length lb)
+  unfolding printed_of pick
+  said-refused x met = rw (refuses q text a b la lb ta tb x met, ne_eqb _ 0 (never_0 x))

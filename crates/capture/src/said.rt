@@ -32,12 +32,11 @@ pub fn put_said(
     ensures text { take result space.new ≡ printed_of asked text.now name_a.now
         name_b.now (length log_a.old) (length log_b.old) }
 {
-    let captured = read_capture(asked, text, name_a, name_b, log_a, log_b);
-    if captured.number != 0 {
-        return put_refused(captured.number, space);
+    match read_capture(asked, text, name_a, name_b, log_a, log_b) {
+        Ok(captured) => {
+            let after_a = put_lines(65, &log_a[..captured.length_a], 0, space);
+            put_lines(66, &log_b[..captured.length_b], after_a, space)
+        }
+        Err(refusal) => put_refused(refusal.number(), space),
     }
-    let length_a = captured.length_a;
-    let length_b = captured.length_b;
-    let after_a = put_lines(65, &log_a[..length_a], 0, space);
-    put_lines(66, &log_b[..length_b], after_a, space)
 }

@@ -16,8 +16,10 @@ use Rattle.chip_device.specs.declared.device.Device.{Device}
 use Rattle.vcd_text.specs.Header.{Wire, chip_wires}
 use Rattle.vcd_text.specs.Time.{time_of}
 use Rattle.vcd_text.specs.Lines.{Line, times_of, RisesFrom}
+use Rattle.std.specs.Prelude.{Ok, Err}
+use Rattle.refusal.specs.declared.refusal.Refusal.TheVariants.{TimeNotLater}
 use Rattle.vcd_read.specs.declared.scanning.Scanned.{Scanned}
-use Rattle.vcd_read.specs.Scan.{no_times, times_from, refused_by, scan_of}
+use Rattle.vcd_read.specs.Scan.{no_times, times_from, scan_of, scan_number}
 use Rattle.vcd_dump.specs.Dump.{events_text}
 use Rattle.vcd_laws.proofs.Shows.{dump_lines}
 use Rattle.vcd_subset.specs.Subset.{Named, Says}
@@ -129,20 +131,21 @@ module _ (number : Number) (log : Log) (h : Captures number log) where
 
   -- ---- the logs of a text that is read ----
 
-  module _ (q : Asked) (text a b : List ℕ) (m : Modelled q) (z : (scan_of text a b).number ≡ 0) (second : Bool) where
-    in_time : (late : Bool) (s : Scanned) → (pick late (refused_by 11) s).number ≡ 0 → late ≡ false
-    unfolding pick
+  module _ (q : Asked) (text a b : List ℕ) (m : Modelled q) (z : scan_number (scan_of text a b) ≡ 0) (second : Bool) where
+    in_time : (late : Bool) (s : Scanned) → scan_number (pick late (Err TimeNotLater) (Ok s)) ≡ 0 → late ≡ false
+    unfolding pick scan_number
     in_time true s e = absurd (omega arith)
     in_time false s e = refl
 
     pub log-read : log second q text a b ≡ log_on second q text a b
+    unfolding scan_number
     log-read =
         told text a b
         (λ ws ls ca cb says na nb.
         log-alike q text a b m ws ls ca cb says na nb
-        (in_time_rises ls (in_time (times_from no_times ls).late _ (ap (λ (s : Scanned). s.number) (sym (taken text a b ws ls says ca cb na nb)) ∙ z)))
+        (in_time_rises ls (in_time (times_from no_times ls).late _ (ap scan_number (sym (taken text a b ws ls says ca cb na nb)) ∙ z)))
         second)
-        (λ none. absurd (omega (arith, z, ap (λ (s : Scanned). s.number) (outside text a b none))))
+        (λ none. absurd (omega (arith, z, ap scan_number (outside text a b none))))
 
 -- ---- dumps ----
 

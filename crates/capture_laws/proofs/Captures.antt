@@ -8,7 +8,7 @@ use native.Mathlib.Omega.{arith}
 use lib.Dec.{ltb}
 use lib.ListN.{length, drop, get_or}
 use borrow.Author.Tests.{ne_eqb, le-ltb, ltb-false, leb-true, leb-false}
-use Rattle.std.specs.Prelude.{Some}
+use Rattle.std.specs.Prelude.{Some, Ok, Err}
 use Rattle.format.specs.Pick.{pick}
 use Rattle.format.specs.Format.{mr1_not_modelled, format_of}
 use Rattle.feed.specs.declared.feed.Setting.{Setting}
@@ -21,10 +21,13 @@ use Rattle.vcd_text.specs.Time.{time_of}
 use Rattle.vcd_text.specs.Lines.{Line, lines_text, times_of, RisesFrom}
 use Rattle.vcd_text.specs.Lines.Line.{Time, Value}
 use Rattle.vcd_read.specs.declared.checking.Times.{Times}
+use Rattle.refusal.specs.declared.refusal.Refusal.{Refusal}
+use Rattle.refusal.specs.declared.refusal.Refusal.TheVariants.{TextOutside, TimeNotLater}
+use Rattle.refusal.specs.Refusal as Refusals
 use Rattle.vcd_read.specs.declared.scanning.Scanned.{Scanned}
 use Rattle.vcd_lines.specs.Body.{started}
 use Rattle.vcd_read.specs.Wires.{has_code}
-use Rattle.vcd_read.specs.Scan.{no_times, time_added, times_from, refused_by, scan_of}
+use Rattle.vcd_read.specs.Scan.{no_times, time_added, times_from, scan_of, found_in}
 use Rattle.vcd_lines.proofs.Laws.Reads.{readable}
 use Rattle.vcd_subset.specs.Subset.{Named, Says}
 use Rattle.vcd_subset.proofs.Header.{header-left}
@@ -32,7 +35,7 @@ use Rattle.vcd_subset.proofs.Takes.{lines_are, rises_in_time, in_time_rises, tak
 use Rattle.vcd_capture.specs.declared.capturing.Asked.{Asked}
 use Rattle.vcd_capture.specs.Logs.{log_bytes}
 use Rattle.vcd_capture.specs.Ear.{ticks_before, pulses_before, heard_from, just_enabled}
-use Rattle.vcd_capture.specs.Capture.{setting_of, end_after, end_of, capture_refusal, log_a, log_b, number_of}
+use Rattle.vcd_capture.specs.Capture.{setting_of, end_after, end_of, text_refusal, capture_refusal, log_a, log_b, number_of}
 use Rattle.vcd_capture.specs.Waves.{level_pulses, NoneAfter}
 use Rattle.vcd_capture.proofs.Laws.Waves.{early, late, text-heard}
 use Rattle.capture_laws.specs.Captures.{period_for, Heard, last_of, HeardBy, sampled_on, Logged, Modelled, Log, Captures}
@@ -156,30 +159,32 @@ module _ (q : Asked) (text a b : List ℕ) where
   is-five room_a room_b h = rw (not-modelled h)
 
   module _ (m : Modelled q) (room_a room_b : ℕ) where
-    is-refused : (n : ℕ) → (scan_of text a b).number ≡ n → (n ≡ 0 → ⊥) → number_of q text a b room_a room_b ≡ n
-    unfolding capture_refusal pick
-    is-refused n e z = rw (modelled-is m, e, ne_eqb n 0 z)
+    is-refused : (x : Refusal) → scan_of text a b ≡ Err x → number_of q text a b room_a room_b ≡ Refusals.number_of x
+    unfolding capture_refusal text_refusal pick
+    is-refused x e = rw (modelled-is m, e)
 
-    is-fitted : (t : Bool) → (scan_of text a b).number ≡ 0 → (ltb room_a (length (log_a q text a b)) || ltb room_b (length (log_b q text a b))) ≡ t
+    is-fitted : (t : Bool) (s : Scanned) → scan_of text a b ≡ Ok s
+        → (ltb room_a (length (log_a q text a b)) || ltb room_b (length (log_b q text a b))) ≡ t
         → number_of q text a b room_a room_b ≡ pick t 8 0
-    unfolding capture_refusal pick
-    is-fitted t e s = rw (modelled-is m, e, s)
+    unfolding capture_refusal text_refusal pick
+    is-fitted true s e f = rw (modelled-is m, f, e)
+    is-fitted false s e f = rw (modelled-is m, f, e)
 
 -- ---- a text that is read ----
 
 module _ (text a b : List ℕ) (ws : List Wire) (ls : List Line) (ca cb : ℕ) (says : Says text ws ls) (na : Named ws a ca) (nb : Named ws b cb) where
   abbrev accepted : Scanned
-  accepted = record { number = 0; code_a = ca; code_b = cb; body = length (header_of ws); times = times_from no_times ls }
+  accepted = record { code_a = ca; code_b = cb; body = length (header_of ws); times = times_from no_times ls }
 
-  in_time : RisesFrom 0 (times_of ls) → scan_of text a b ≡ accepted
+  in_time : RisesFrom 0 (times_of ls) → scan_of text a b ≡ Ok accepted
   unfolding pick
   in_time r = taken text a b ws ls says ca cb na nb ∙ rw (rises_in_time ls r)
 
-  too-late : (RisesFrom 0 (times_of ls) → ⊥) → scan_of text a b ≡ refused_by 11
+  too-late : (RisesFrom 0 (times_of ls) → ⊥) → scan_of text a b ≡ Err TimeNotLater
   unfolding pick
   too-late n = taken text a b ws ls says ca cb na nb ∙ go (times_from no_times ls).late refl
     where
-      go : (t : Bool) → (times_from no_times ls).late ≡ t → pick t (refused_by 11) accepted ≡ refused_by 11
+      go : (t : Bool) → (times_from no_times ls).late ≡ t → pick t (Err TimeNotLater) (Ok accepted) ≡ Err TimeNotLater
       go true e = refl
       go false e = absurd (n (in_time_rises ls e))
 
@@ -192,6 +197,7 @@ module _ (text a b : List ℕ) (ws : List Wire) (ls : List Line) (ca cb : ℕ) (
 
   log_is : (q : Asked) → RisesFrom 0 (times_of ls)
       → (log_a q text a b ≡ log_bytes (heard_on q ca)) × (log_b q text a b ≡ log_bytes (heard_on q cb))
+  unfolding found_in
   log_is q r = (rw (in_time r, lines_left), rw (in_time r, lines_left))
 
   is-logged : (q : Asked) (code : ℕ) → Modelled q → RisesFrom 0 (times_of ls)
@@ -237,13 +243,13 @@ captures =
     record {
       five = is-five;
       ten = λ q text a b room_a room_b m none.
-          is-refused q text a b m room_a room_b 10 (ap (λ (s : Scanned). s.number) (outside text a b none)) (λ (z : ◌≡◌ {A = ℕ} 10 0). omega arith);
+          is-refused q text a b m room_a room_b TextOutside (outside text a b none);
       eleven = λ q text a b room_a room_b m ws ls ca cb says na nb late.
-          is-refused q text a b m room_a room_b 11 (ap (λ (s : Scanned). s.number) (too-late text a b ws ls ca cb says na nb late)) (λ (z : ◌≡◌ {A = ℕ} 11 0). omega arith);
+          is-refused q text a b m room_a room_b TimeNotLater (too-late text a b ws ls ca cb says na nb late);
       eight = λ q text a b room_a room_b m ws ls ca cb says na nb r short.
-          is-fitted q text a b m room_a room_b true (ap (λ (s : Scanned). s.number) (in_time text a b ws ls ca cb says na nb r)) (not_fitting _ _ _ _ short);
+          is-fitted q text a b m room_a room_b true _ (in_time text a b ws ls ca cb says na nb r) (not_fitting _ _ _ _ short);
       none = λ q text a b room_a room_b m ws ls ca cb says na nb r fa fb.
-          is-fitted q text a b m room_a room_b false (ap (λ (s : Scanned). s.number) (in_time text a b ws ls ca cb says na nb r))
+          is-fitted q text a b m room_a room_b false _ (in_time text a b ws ls ca cb says na nb r)
           (neither _ _ (le-ltb _ _ fa) (le-ltb _ _ fb));
       hears = is_heard;
     }

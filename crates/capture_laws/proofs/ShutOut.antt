@@ -10,7 +10,7 @@ use Rattle.format.specs.Pick.{pick}
 use Rattle.chip_device.specs.Device.{fresh_device}
 use Rattle.text.specs.Bytes.{bytes_of}
 use Rattle.vcd_text.specs.Header.{wires_from, chip_wires}
-use Rattle.vcd_read.specs.Scan.{scan_of}
+use Rattle.vcd_read.specs.Scan.{scan_of, scan_number}
 use Rattle.vcd_dump.specs.Dump.{events_text}
 use Rattle.vcd_laws.proofs.Shows.{dump_lines, shows}
 use Rattle.vcd_subset.specs.Subset.{Named}
@@ -27,11 +27,11 @@ modelled : Modelled fast
 unfolding capturing
 modelled = (refl, omega arith)
 
-read_both : (scan_of (text_of both) wire_a wire_b).number ≡ 0
+read_both : scan_number (scan_of (text_of both) wire_a wire_b) ≡ 0
 unfolding capturing
 read_both = refl
 
-read_twice : (scan_of (text_of twice) wire_a wire_b).number ≡ 0
+read_twice : scan_number (scan_of (text_of twice) wire_a wire_b) ≡ 0
 unfolding capturing
 read_twice = refl
 

@@ -15,6 +15,7 @@ use chip_step::Answer;
 use chip_ticks::{Ran, run};
 use poll::{Polled, poll, seen_in, state_in};
 use records::{EventRecord, Seen, event_of};
+use refusal::Refusal;
 use request::{FrameAnswer, request_frame};
 use vcd_capture::{Asked, Captured, read_capture};
 use vcd_dump::{DumpAnswer, dump};
@@ -175,18 +176,22 @@ pub extern "C" fn duart_dump_bytes(device: Device, events: &[u8], space: &mut [u
     dump(device, events, space)
 }
 
-fn capture_seen(captured: Captured, channel_b: bool) -> CaptureAnswer
+fn capture_seen(captured: Result<Captured, Refusal>, channel_b: bool) -> CaptureAnswer
     ensures { result ≡ capture_seen captured channel_b }
 {
-    if channel_b {
-        return CaptureAnswer {
-            number: captured.number,
-            length: captured.length_b,
-        };
-    }
-    CaptureAnswer {
-        number: captured.number,
-        length: captured.length_a,
+    match captured {
+        Ok(filled) => CaptureAnswer {
+            number: 0,
+            length: if channel_b {
+                filled.length_b
+            } else {
+                filled.length_a
+            },
+        },
+        Err(refusal) => CaptureAnswer {
+            number: refusal.number(),
+            length: 0,
+        },
     }
 }
 

@@ -18,12 +18,12 @@ use Rattle.vcd_capture.specs.declared.capturing.Captured.{Captured}
 use Rattle.vcd_capture.specs.Logs.{marks_byte, character_bytes, log_bytes}
 use Rattle.vcd_capture.specs.Ear.{ticks_before, pulses_before, ear_until, heard_until, ear_value, ear_said, heard_said}
 use Rattle.vcd_capture.specs.Ear.{heard_from}
-use Rattle.vcd_capture.specs.Capture.{setting_of, end_after, log_in, text_refusal, capture_refusal, number_of, captured_by, captured_of, log_after, handed_of}
+use Rattle.vcd_capture.specs.Capture.{setting_of, end_after, text_refusal, capture_refusal, number_of, captured_by, captured_of, log_after, handed_of}
 use Rattle.vcd_capture.specs.Waves.{level_pulses}
 
 unfoldable pub capturing : Bool
 unfolding reading Sampling.computing period_of after_lines arrivals level_at marks_byte character_bytes log_bytes ticks_before
-    pulses_before ear_until heard_until ear_value ear_said heard_said heard_from setting_of end_after log_in
+    pulses_before ear_until heard_until ear_value ear_said heard_said heard_from setting_of end_after
     text_refusal capture_refusal captured_by captured_of log_after handed_of level_pulses
 capturing = true
 

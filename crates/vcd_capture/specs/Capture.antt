@@ -10,7 +10,7 @@ use Rattle.dividers.specs.Rates.{period_of}
 use Rattle.vcd_read.specs.declared.checking.Times.{Times}
 use Rattle.vcd_read.specs.declared.scanning.Scanned.{Scanned}
 use Rattle.vcd_lines.specs.Body.{started}
-use Rattle.vcd_read.specs.Scan.{scan_of}
+use Rattle.vcd_read.specs.Scan.{scan_of, found_in}
 use Rattle.refusal.specs.declared.refusal.Refusal.{Refusal}
 use Rattle.refusal.specs.declared.refusal.Refusal.TheVariants.{SettingNotModelled, SpaceShort}
 use Rattle.refusal.specs.Refusal.{answer_number}
@@ -40,17 +40,12 @@ characters_of q text s wire =
 abbrev pub log_of : Asked → List ℕ → Scanned → ℕ → List ℕ
 log_of q text s wire = log_bytes (characters_of q text s wire)
 
--- a log that is heard in a text: of one that is refused there is none
-unfoldable pub log_in : Asked → List ℕ → (Scanned → ℕ) → Result Scanned Refusal → List ℕ
-log_in q text wire (Err refusal) = []
-log_in q text wire (Ok s) = log_of q text s (wire s)
-
 -- the call: what it asks for, the text, the two names and the two logs' lengths
 abbrev pub log_a : Asked → List ℕ → List ℕ → List ℕ → List ℕ
-log_a q text a b = log_in q text (λ (s : Scanned). s.code_a) (scan_of text a b)
+log_a q text a b = log_of q text (found_in (scan_of text a b)) (found_in (scan_of text a b)).code_a
 
 abbrev pub log_b : Asked → List ℕ → List ℕ → List ℕ → List ℕ
-log_b q text a b = log_in q text (λ (s : Scanned). s.code_b) (scan_of text a b)
+log_b q text a b = log_of q text (found_in (scan_of text a b)) (found_in (scan_of text a b)).code_b
 
 -- "Refusals, in this order: 5 (a code above 12 too), 10 .., 11 .., 8 either log too short"
 unfoldable pub text_refusal : Result Scanned Refusal → Option Refusal → Option Refusal

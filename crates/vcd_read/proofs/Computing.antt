@@ -9,7 +9,7 @@ use Rattle.text.specs.Bytes.{bytes_of}
 use Rattle.vcd_text.specs.Header as Written
 use Rattle.vcd_lines.specs.Body.{begun, first_digit, next_digit, must_end, coded, taken_of, said_of, read_all, lines_read}
 use Rattle.vcd_read.specs.Wires.{starts, name_of, is_wire, wires_of, wires_end, clash_of, twice_of, has_code, code_named}
-use Rattle.vcd_read.specs.Scan.{times_said, checked_by, checked_of, named_header, header_read, judged, scan_with, scan_of}
+use Rattle.vcd_read.specs.Scan.{times_said, checked_by, checked_of, named_header, header_read, judged, scan_with, scan_of, scan_number, found_in}
 
 -- lines, each ended by LF
 unfoldable pub lines : List String → List ℕ
@@ -19,7 +19,7 @@ lines (l ∷ ls) = bytes_of l ++ 10 ∷ lines ls
 unfoldable pub reading : Bool
 unfolding lines pick bytes_of Written.line_of begun first_digit next_digit must_end coded taken_of said_of read_all lines_read
     starts name_of is_wire wires_of wires_end clash_of twice_of has_code code_named times_said checked_by checked_of named_header
-    header_read judged scan_with scan_of
+    header_read judged scan_with scan_of scan_number found_in
 reading = true
 
 -- order 6's header around the lines of wires

@@ -6,19 +6,20 @@ use mathlib.Core.Path.{◌≡◌, refl}
 use mathlib.Core.Bool.{true, false}
 use mathlib.Core.List.{List, [], ◌∷◌, ◌++◌, map}
 use lib.ListN.{take, drop}
-use Rattle.std.specs.Prelude.{None, Some}
+use Rattle.std.specs.Prelude.{None, Some, Result, Ok}
 use Rattle.text.specs.Bytes.{bytes_of}
 use Rattle.vcd_text.specs.Lines.Line.{Time, Value}
+use Rattle.refusal.specs.declared.refusal.Refusal.{Refusal}
 use Rattle.vcd_read.specs.declared.scanning.Scanned.{Scanned}
 use Rattle.vcd_lines.specs.Body.{started, lines_read}
-use Rattle.vcd_read.specs.Scan.{scan_of}
+use Rattle.vcd_read.specs.Scan.{scan_of, scan_number, found_in}
 use Rattle.vcd_read.proofs.Computing.{reading, lines, around, two_wires, dump}
 
 -- ---- the lines after the header ----
 
 -- the number of a text with these lines, and of many
 abbrev number : List String → ℕ
-number body = (scan_of (dump body) (bytes_of "RxDA") (bytes_of "RxDB")).number
+number body = scan_number (scan_of (dump body) (bytes_of "RxDA") (bytes_of "RxDB"))
 
 abbrev each : List String → List ℕ
 each ls = map (λ (l : String). number (l ∷ [])) ls
@@ -67,7 +68,7 @@ value_first = refl
 
 -- the last line has its LF too, a CR (13) or a tab (9) stands nowhere, and an empty text is outside
 abbrev of_bytes : List ℕ → ℕ
-of_bytes text = (scan_of text (bytes_of "RxDA") (bytes_of "RxDB")).number
+of_bytes text = scan_number (scan_of text (bytes_of "RxDA") (bytes_of "RxDB"))
 
 pub ends_of_lines : (of_bytes (dump [] ++ bytes_of "#0") ≡ 10)
     × (of_bytes (dump ("#0" ∷ []) ++ bytes_of "1!") ≡ 10)
@@ -122,7 +123,7 @@ odd_codes_lem = (refl, refl)
 -- beside the wire `RxDA` with the code `!` another line, the caller naming the first wire twice
 abbrev beside : List ℕ → ℕ
 beside line =
-    (scan_of (around (lines ("$var wire 1 ! RxDA $end" ∷ []) ++ line)) (bytes_of "RxDA") (bytes_of "RxDA")).number
+    scan_number (scan_of (around (lines ("$var wire 1 ! RxDA $end" ∷ []) ++ line)) (bytes_of "RxDA") (bytes_of "RxDA"))
 
 abbrev besides : List String → List ℕ
 besides ls = map (λ (l : String). beside (lines (l ∷ []))) ls
@@ -131,7 +132,7 @@ abbrev wire : ℕ → List ℕ → List ℕ
 wire code name = bytes_of "$var wire 1 " ++ code ∷ 32 ∷ name ++ bytes_of " $end" ++ 10 ∷ []
 
 -- one wire is enough, and both names may be the same wire's; none is not
-pub one_wire : (beside [] ≡ 0) × ((scan_of (around []) (bytes_of "RxDA") (bytes_of "RxDA")).number ≡ 10)
+pub one_wire : (beside [] ≡ 0) × (scan_number (scan_of (around []) (bytes_of "RxDA") (bytes_of "RxDA")) ≡ 10)
 unfolding reading
 one_wire = (refl, refl)
 
@@ -168,7 +169,7 @@ pub visible_codes : (beside (wire 126 (120 ∷ [])) ≡ 0)
     × (beside (wire 34 (120 ∷ [])) ≡ 0)
     × (beside (wire 32 (120 ∷ [])) ≡ 10)
     × (beside (wire 127 (120 ∷ [])) ≡ 10)
-    × ((scan_of (around (wire 33 (120 ∷ []))) (120 ∷ []) (120 ∷ [])).code_a ≡ 33)
+    × ((found_in (scan_of (around (wire 33 (120 ∷ []))) (120 ∷ []) (120 ∷ []))).code_a ≡ 33)
 unfolding reading
 visible_codes = (refl, refl, refl, refl, refl)
 
@@ -200,7 +201,7 @@ each_once_apart = (refl, refl, refl, refl)
 
 -- "a named wire missing", the first or the second
 abbrev naming : String → String → ℕ
-naming a b = (scan_of (dump ("#0" ∷ [])) (bytes_of a) (bytes_of b)).number
+naming a b = scan_number (scan_of (dump ("#0" ∷ [])) (bytes_of a) (bytes_of b))
 
 pub missing : (naming "RxDA" "RxDC" ≡ 10)
     × (naming "RxDC" "RxDB" ≡ 10)
@@ -242,29 +243,23 @@ other_words = (refl, refl, refl, refl, refl, refl, refl, refl, refl, refl)
 
 -- ---- what is found ----
 
-abbrev found : List String → Scanned
+abbrev found : List String → Result Scanned Refusal
 found body = scan_of (dump body) (bytes_of "RxDA") (bytes_of "RxDB")
 
 -- the codes of the named wires, A's first; where the lines after the header begin; and the last time
 pub found_whole : (found ("#271" ∷ "0!" ∷ "#4000000000" ∷ [])
-    ≡ record {
-      number = 0;
-      code_a = 33;
-      code_b = 34;
-      body = 129;
-      times = record { last = Some 4000000000; late = false };
-    })
+    ≡ Ok (record { code_a = 33; code_b = 34; body = 129; times = record { last = Some 4000000000; late = false } }))
     × (drop 129 (dump ("#271" ∷ "0!" ∷ [])) ≡ lines ("#271" ∷ "0!" ∷ []))
 unfolding reading
 found_whole = (refl, refl)
 
-pub found_exchanged : ((scan_of (dump []) (bytes_of "RxDB") (bytes_of "RxDA")).code_a ≡ 34)
-    × ((scan_of (dump []) (bytes_of "RxDB") (bytes_of "RxDA")).code_b ≡ 33)
+pub found_exchanged : ((found_in (scan_of (dump []) (bytes_of "RxDB") (bytes_of "RxDA"))).code_a ≡ 34)
+    × ((found_in (scan_of (dump []) (bytes_of "RxDB") (bytes_of "RxDA"))).code_b ≡ 33)
 unfolding reading
 found_exchanged = (refl, refl)
 
 -- time 0 is a time; a text with none has none
-pub last_times : ((found ("#0" ∷ [])).times ≡ record { last = Some 0; late = false })
-    × ((found []).times ≡ record { last = None; late = false })
+pub last_times : ((found_in (found ("#0" ∷ []))).times ≡ record { last = Some 0; late = false })
+    × ((found_in (found [])).times ≡ record { last = None; late = false })
 unfolding reading
 last_times = (refl, refl)

@@ -2,7 +2,7 @@
 -- 16 wires .., then times up to 4,000,000,000 ns, no leading zeros, each with any value lines of those codes". Assumes
 -- nothing.
 use Rattle.std.specs.Prelude.{ℕ, ◌+◌, Bool, false, ◌&&◌, ◌||◌, List, [], ◌∷◌, ◌++◌, eqb, ltb, leb, length, drop}
-use Rattle.std.specs.Prelude.{get_or, Option, None, Some}
+use Rattle.std.specs.Prelude.{get_or, Option, None, Some, Result, Ok, Err}
 use Rattle.format.specs.Pick.{pick}
 use Rattle.vcd_text.specs.Header.{line_of}
 use Rattle.vcd_text.specs.Lines.{Line}
@@ -10,6 +10,9 @@ use Rattle.vcd_text.specs.Lines.Line.{Time, Value}
 use Rattle.vcd_read.specs.declared.checking.Checked.{Checked}
 use Rattle.vcd_read.specs.declared.checking.Times.{Times}
 use Rattle.vcd_read.specs.declared.scanning.Header.{Header}
+use Rattle.refusal.specs.declared.refusal.Refusal.{Refusal}
+use Rattle.refusal.specs.declared.refusal.Refusal.TheVariants.{TextOutside, TimeNotLater}
+use Rattle.refusal.specs.Refusal.{number_of}
 use Rattle.vcd_read.specs.declared.scanning.Scanned.{Scanned}
 use Rattle.vcd_lines.specs.declared.body.Said.{Said}
 use Rattle.vcd_lines.specs.declared.body.Said.TheVariants.{NoLine, TimeLine, ValueLine}
@@ -94,21 +97,31 @@ header_read text a b =
 abbrev pub body_checked : List ℕ → ℕ → Checked
 body_checked text at = checked_of (has_code (wires_in text)) unchecked (drop at text)
 
-abbrev pub refused_by : ℕ → Scanned
-refused_by n = record { number = n; code_a = 0; code_b = 0; body = 0; times = no_times }
-
 -- "10 text outside the subset or a named wire missing, 11 a time not later than the one before": in this order over the
 -- whole text. A text inside ends with a line's end.
-unfoldable pub judged : Header → Checked → Scanned
+unfoldable pub judged : Header → Checked → Result Scanned Refusal
 judged h x =
     pick (eqb x.reading.place 0)
-    (pick x.times.late (refused_by 11)
-    (record { number = 0; code_a = h.code_a; code_b = h.code_b; body = h.body; times = x.times }))
-    (refused_by 10)
+    (pick x.times.late (Err TimeNotLater)
+    (Ok (record { code_a = h.code_a; code_b = h.code_b; body = h.body; times = x.times })))
+    (Err TextOutside)
 
-unfoldable pub scan_with : List ℕ → Option Header → Scanned
-scan_with text None = refused_by 10
+unfoldable pub scan_with : List ℕ → Option Header → Result Scanned Refusal
+scan_with text None = Err TextOutside
 scan_with text (Some h) = judged h (body_checked text h.body)
 
-unfoldable pub scan_of : List ℕ → List ℕ → List ℕ → Scanned
+unfoldable pub scan_of : List ℕ → List ℕ → List ℕ → Result Scanned Refusal
 scan_of text a b = scan_with text (header_read text a b)
+
+-- the number of what is answered, 0 where the text is inside
+unfoldable pub scan_number : Result Scanned Refusal → ℕ
+scan_number (Ok s) = 0
+scan_number (Err r) = number_of r
+
+-- what is found of a text: of one that is refused, nothing
+abbrev pub nothing_found : Scanned
+nothing_found = record { code_a = 0; code_b = 0; body = 0; times = no_times }
+
+unfoldable pub found_in : Result Scanned Refusal → Scanned
+found_in (Ok s) = s
+found_in (Err r) = nothing_found

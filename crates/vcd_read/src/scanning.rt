@@ -1,10 +1,11 @@
 // A whole text.
-ghost use Rattle.std.specs.Prelude.{◌≤◌, ◌≡◌, length, IfSome};
-ghost use Rattle.vcd_read.specs.Scan.{few, header_read, refused_by, judged, scan_of};
+ghost use Rattle.std.specs.Prelude.{◌≤◌, ◌≡◌, length, IfSome, IfOk};
+ghost use Rattle.vcd_read.specs.Scan.{few, header_read, judged, scan_of};
 
 use crate::checking::{Checked, Times, check};
 use crate::named::{code_named, codes_of, twice};
 use crate::wires::{after, wires_in};
+use refusal::Refusal;
 use vcd_lines::LINE_START;
 
 // A header in the subset: the codes of the two wires that are named, and where the lines after it begin.
@@ -15,10 +16,9 @@ pub struct Header {
     pub body: usize,
 }
 
-// What is known of a text, or why it is refused.
+// What is known of a text.
 #[derive(Clone, Copy)]
 pub struct Scanned {
-    pub number: u8,
     pub code_a: u8,
     pub code_b: u8,
     pub body: usize,
@@ -56,50 +56,30 @@ fn read_header(text: &[u8], name_a: &[u8], name_b: &[u8]) -> Option<Header>
     })
 }
 
-fn refuse(number: u8) -> Scanned
-    ensures { result ≡ refused_by number }
-{
-    Scanned {
-        number: number,
-        code_a: 0,
-        code_b: 0,
-        body: 0,
-        times: Times {
-            last: None,
-            late: false,
-        },
-    }
-}
-
 // A text inside ends with a line's end.
-fn judge(header: Header, checked: Checked) -> Scanned
+fn judge(header: Header, checked: Checked) -> Result<Scanned, Refusal>
     ensures { result ≡ judged header checked }
 {
-    if checked.reading.place == LINE_START {
-        let times = checked.times;
-        if times.late {
-            return refuse(11);
-        }
-        return Scanned {
-            number: 0,
-            code_a: header.code_a,
-            code_b: header.code_b,
-            body: header.body,
-            times: times,
-        };
+    if checked.reading.place != LINE_START {
+        return Err(Refusal::TextOutside);
     }
-    refuse(10)
+    if checked.times.late {
+        return Err(Refusal::TimeNotLater);
+    }
+    Ok(Scanned {
+        code_a: header.code_a,
+        code_b: header.code_b,
+        body: header.body,
+        times: checked.times,
+    })
 }
 
 // "10 text outside the subset or a named wire missing, 11 a time not later than the one before"
-pub fn scan(text: &[u8], name_a: &[u8], name_b: &[u8]) -> Scanned
-    ensures { (result ≡ scan_of text.now name_a.now name_b.now)
-        × (result.body ≤ length text.now) }
+pub fn scan(text: &[u8], name_a: &[u8], name_b: &[u8]) -> Result<Scanned, Refusal>
+    ensures scanned { result ≡ scan_of text.now name_a.now name_b.now }
+    ensures within { IfOk result (λ s. s.body ≤ length text.now) }
 {
-    let Some(header) = read_header(text, name_a, name_b) else {
-        return refuse(10);
-    };
+    let header = read_header(text, name_a, name_b).ok_or(Refusal::TextOutside)?;
     let codes = codes_of(wires_in(text));
-    let checked = check(&text[header.body..], &codes);
-    judge(header, checked)
+    judge(header, check(&text[header.body..], &codes))
 }

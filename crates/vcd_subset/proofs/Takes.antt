@@ -7,18 +7,19 @@ use native.Mathlib.Omega.{arith}
 use lib.Dec.{eqb}
 use lib.ListN.{length, drop}
 use borrow.Author.Tests.{eqb-true, lt-leb, leb-false}
-use Rattle.std.specs.Prelude.{Option, None, Some}
+use Rattle.std.specs.Prelude.{Option, None, Some, Ok, Err}
 use Rattle.format.specs.Pick.{pick}
 use Rattle.vcd_text.specs.Header.{Wire, header_of}
 use Rattle.vcd_text.specs.Lines.{Line, lines_text, times_of, RisesFrom}
 use Rattle.vcd_text.specs.Lines.Line.{Time, Value}
 use Rattle.vcd_read.specs.declared.checking.Checked.{Checked}
 use Rattle.vcd_read.specs.declared.checking.Times.{Times}
+use Rattle.refusal.specs.declared.refusal.Refusal.TheVariants.{TextOutside, TimeNotLater}
 use Rattle.vcd_read.specs.declared.scanning.Scanned.{Scanned}
 use Rattle.vcd_lines.specs.Body.{started, read_all, lines_read}
 use Rattle.vcd_read.specs.declared.scanning.Header.{Header}
 use Rattle.vcd_read.specs.Wires.{wires_in, has_code}
-use Rattle.vcd_read.specs.Scan.{header_read, body_checked, no_times, not_later, time_added, times_from, unchecked, refused_by, judged, scan_with, scan_of}
+use Rattle.vcd_read.specs.Scan.{header_read, body_checked, no_times, not_later, time_added, times_from, unchecked, judged, scan_with, scan_of}
 use Rattle.vcd_lines.proofs.Laws.Reads.{readable, lines-read}
 use Rattle.vcd_read.proofs.Laws.Header.{both_named}
 use Rattle.vcd_read.proofs.Laws.Checks.{checked_reads}
@@ -91,8 +92,8 @@ in_time_rises ls e = rise_back no_times ls e
 module _ (text a b : List ℕ) (ws : List Wire) (ls : List Line) (says : Says text ws ls) where
   -- a wire that is named
   pub taken : (ca cb : ℕ) → Named ws a ca → Named ws b cb
-      → scan_of text a b ≡ pick (times_from no_times ls).late (refused_by 11)
-      (record { number = 0; code_a = ca; code_b = cb; body = length (header_of ws); times = times_from no_times ls })
+      → scan_of text a b ≡ pick (times_from no_times ls).late (Err TimeNotLater)
+      (Ok (record { code_a = ca; code_b = cb; body = length (header_of ws); times = times_from no_times ls }))
   unfolding scan_of scan_with judged pick
   taken ca cb na nb =
       let head : header_read text a b ≡ Some (record { code_a = ca; code_b = cb; body = length (header_of ws) }) =
@@ -142,7 +143,7 @@ module _ (text a b : List ℕ) where
   abbrev Inside : Type 0 → Type 0
   Inside A = (ws : List Wire) (ls : List Line) (ca cb : ℕ) → Says text ws ls → Named ws a ca → Named ws b cb → A
 
-  either_way : {A : Type 0} → Inside A → (scan_of text a b ≡ refused_by 10 → A) → A
+  either_way : {A : Type 0} → Inside A → (scan_of text a b ≡ Err TextOutside → A) → A
   unfolding scan_of scan_with judged pick
   either_way {A} read other = go (header_read text a b) refl
     where
@@ -154,17 +155,17 @@ module _ (text a b : List ℕ) where
       go None e = other (rw e)
       go (Some h) e = placed h e (eqb (body_checked text h.body).reading.place 0) refl
 
-  not-ten : (t : Bool) (s : Scanned) → s.number ≡ 0 → pick t (refused_by 11) s ≡ refused_by 10 → ⊥
+  not-ten : (t : Bool) (s : Scanned) → pick t (Err TimeNotLater) (Ok s) ≡ Err TextOutside → ⊥
   unfolding pick
-  not-ten true s z e = omega (arith, ap (λ (x : Scanned). x.number) e)
-  not-ten false s z e = omega (arith, z, ap (λ (x : Scanned). x.number) e)
+  not-ten true s e = cc
+  not-ten false s e = cc
 
-  refused-outside : scan_of text a b ≡ refused_by 10 → Outside
+  refused-outside : scan_of text a b ≡ Err TextOutside → Outside
   refused-outside e ws ls ca cb says na nb =
-      not-ten (times_from no_times ls).late _ refl (sym (taken text a b ws ls says ca cb na nb) ∙ e)
+      not-ten (times_from no_times ls).late _ (sym (taken text a b ws ls says ca cb na nb) ∙ e)
 
-  pub outside : Outside → scan_of text a b ≡ refused_by 10
+  pub outside : Outside → scan_of text a b ≡ Err TextOutside
   outside none = either_way (λ ws ls ca cb says na nb. absurd (none ws ls ca cb says na nb)) (λ e. e)
 
   pub told : {A : Type 0} → Inside A → (Outside → A) → A
-  told {A} read other = either_way read (λ (e : scan_of text a b ≡ refused_by 10). other (refused-outside e))
+  told {A} read other = either_way read (λ (e : scan_of text a b ≡ Err TextOutside). other (refused-outside e))

@@ -1,10 +1,10 @@
 -- The answer and the logs by the test that decides them, in the order of the tests. Assumes nothing.
 use Prim.Native.Nat.{ℕ, ◌+◌, ◌-◌}
-use mathlib.Core.Path.{◌≡◌, refl, sym, ◌∙◌, ap}
+use mathlib.Core.Path.{◌≡◌, refl, sym, ◌∙◌, ap, subst}
 use mathlib.Core.Bool.{Bool, true, false, ◌||◌, true≢false, false≢true}
 use mathlib.Core.List.{List, [], ◌++◌}
 use native.Mathlib.Omega.{arith}
-use lib.Dec.{eqb, ltb}
+use lib.Dec.{ltb}
 use lib.ListN.{length, take, drop}
 use lib.Seq.{take-append_seam}
 use borrow.Author.Tests.{ne_eqb, ltb-false}
@@ -20,7 +20,7 @@ use Rattle.text.specs.Puts.{Puts}
 use Rattle.text.proofs.Laws.Puts.{puts_whole}
 use Rattle.vcd_read.specs.declared.scanning.Scanned.{Scanned}
 use Rattle.vcd_lines.specs.Body.{started}
-use Rattle.vcd_read.specs.Scan.{scan_of}
+use Rattle.vcd_read.specs.Scan.{scan_of, found_in}
 use Rattle.refusal.specs.declared.refusal.Refusal.{Refusal}
 use Rattle.refusal.specs.declared.refusal.Refusal.TheVariants.{SettingNotModelled, SpaceShort}
 use Rattle.refusal.specs.Refusal as Refusals
@@ -29,7 +29,7 @@ use Rattle.vcd_capture.specs.declared.capturing.Asked.{Asked}
 use Rattle.vcd_capture.specs.declared.capturing.Captured.{Captured}
 use Rattle.vcd_capture.specs.Logs.{log_bytes}
 use Rattle.vcd_capture.specs.Ear.{heard_from, just_enabled}
-use Rattle.vcd_capture.specs.Capture.{setting_of, end_of, log_in, text_refusal, capture_refusal, log_a, log_b, refusal_of, number_of, captured_by, captured_of, log_after, CaptureMet, handed_of}
+use Rattle.vcd_capture.specs.Capture.{setting_of, end_of, text_refusal, capture_refusal, log_a, log_b, refusal_of, number_of, captured_by, captured_of, log_after, CaptureMet, handed_of}
 
 both_false : (x y : Bool) → (x || y) ≡ false → (x ≡ false) × (y ≡ false)
 both_false false y h = (refl, h)
@@ -44,7 +44,7 @@ pub heard_is : (q : Asked) (text a b : List ℕ) (p : Ticks) (f : Setting) (end 
     → end ≡ end_of s.times → scan_of text a b ≡ Ok s
     → (log_bytes (heard_from p.0 f s.code_a end started just_enabled (take (length text - s.body) (drop s.body text))) ≡ log_a q text a b)
     × (log_bytes (heard_from p.0 f s.code_b end started just_enabled (take (length text - s.body) (drop s.body text))) ≡ log_b q text a b)
-unfolding log_in
+unfolding found_in
 heard_is q text a b p f end s ep ef ee es = (rw (take_rest text s.body, ep, ef, ee, es), rw (take_rest text s.body, ep, ef, ee, es))
 
 module _ (q : Asked) (text a b la lb : List ℕ) where
@@ -148,3 +148,7 @@ module _ (q : Asked) (text a b la lb ta tb : List ℕ) where
   unfolding handed_of pick
   part-b (Ok x) met filled h = let f = filled-b x met in rw (h, accepts x met) f
   part-b (Err x) met filled h = rw (h, refuses x met, ne_eqb _ 0 (never_0 x)) (refl, refl)
+
+pub met_as : {q : Asked} {text a b la lb ta tb : List ℕ} {r x : Result Captured Refusal} → r ≡ x → CaptureMet q text a b la lb ta tb r
+    → CaptureMet q text a b la lb ta tb x
+met_as {q} {text} {a} {b} {la} {lb} {ta} {tb} e met = subst (λ (r : Result Captured Refusal). CaptureMet q text a b la lb ta tb r) e met

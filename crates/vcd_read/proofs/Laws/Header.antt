@@ -6,7 +6,8 @@ use mathlib.Core.List.{List}
 use native.Mathlib.Omega.{arith}
 use lib.Dec.{eqb}
 use lib.ListN.{length, drop, replicate, length-drop}
-use Rattle.std.specs.Prelude.{Option, None, Some}
+use Rattle.std.specs.Prelude.{Option, None, Some, Result, Ok, Err, IfOk}
+use Rattle.std.specs.Option.{ok_or}
 use Rattle.format.specs.Pick.{pick}
 use Rattle.format.proofs.Laws.Pick.{pick_all}
 use Rattle.text.specs.Bytes.{bytes_of}
@@ -14,9 +15,11 @@ use Rattle.vcd_text.specs.Header.{line_of}
 use Rattle.vcd_read.specs.Wires.{starts, wires_in, wires_over, twice_of, code_named, filled}
 use Rattle.vcd_read.specs.declared.checking.Checked.{Checked}
 use Rattle.vcd_read.specs.declared.scanning.Header.{Header}
+use Rattle.refusal.specs.declared.refusal.Refusal.{Refusal}
 use Rattle.vcd_read.specs.declared.scanning.Scanned.{Scanned}
+use Rattle.refusal.specs.declared.refusal.Refusal.TheVariants.{TextOutside, TimeNotLater}
 use Rattle.vcd_read.specs.Scan.{open_words, close_words, few, named_header, header_read}
-use Rattle.vcd_read.specs.Scan.{in_table, checked_of, unchecked, refused_by, judged, scan_with, scan_of}
+use Rattle.vcd_read.specs.Scan.{in_table, checked_of, unchecked, judged, scan_with, scan_of}
 use Rattle.vcd_read.proofs.Laws.Starts.{starts_within}
 use Rattle.vcd_read.proofs.Laws.Table.{table_is, checked_alike}
 
@@ -69,7 +72,7 @@ both_named a b n = refl
 
 -- ---- the whole ----
 
-pub not_inside : (text a b : List ℕ) → header_read text a b ≡ None → scan_of text a b ≡ refused_by 10
+pub not_inside : (text a b : List ℕ) → header_read text a b ≡ None → scan_of text a b ≡ Err TextOutside
 unfolding scan_of scan_with
 not_inside text a b h = rw h
 
@@ -80,9 +83,17 @@ unfolding scan_of scan_with
 is_inside text a b h codes eh ec =
     rw (ec, eh) (ap (judged h) (checked_alike _ _ (table_is 17 (drop 46 text)) unchecked (drop h.body text)))
 
+pub or_refused : (o : Option Header) (r : Refusal) → Err r ≡ ok_or o TextOutside → (o ≡ None) × (r ≡ TextOutside)
+or_refused None r e = let q : r ≡ TextOutside = cc in (refl, q)
+or_refused (Some h) r e = cc
+
+pub or_found : (o : Option Header) (h : Header) → Ok h ≡ ok_or o TextOutside → o ≡ Some h
+or_found None h e = cc
+or_found (Some g) h e = cc
+
 -- what is judged inside begins where the header ends
-pub judged_body : (h : Header) (x : Checked) → (judged h x).body ≤ h.body
+pub judged_body : (h : Header) (x : Checked) (n : ℕ) → h.body ≤ n → IfOk (judged h x) (λ (s : Scanned). s.body ≤ n)
 unfolding judged
-judged_body h x =
-    pick_all (λ (r : Scanned). r.body ≤ h.body) (eqb x.reading.place 0) _ _
-    (pick_all (λ (r : Scanned). r.body ≤ h.body) x.times.late _ _ (omega arith) (omega arith)) (omega arith)
+judged_body h x n l =
+    pick_all (λ (r : Result Scanned Refusal). IfOk r (λ (s : Scanned). s.body ≤ n)) (eqb x.reading.place 0) _ _
+    (pick_all (λ (r : Result Scanned Refusal). IfOk r (λ (s : Scanned). s.body ≤ n)) x.times.late _ _ tt l) tt

@@ -3,10 +3,10 @@ use Rattle.format.proofs.Laws.{steps}
 use Rattle.duart.specs.Duart.{capture_seen}
 use Rattle.duart.proofs.duart.capture_seen.Goals as goal
 
-pub returns-then-channel_b : goal.returns-then-channel_b
+pub returns-in-Ok : goal.returns-in-Ok
 unfolding capture_seen
-returns-then-channel_b c = search steps
+returns-in-Ok c = search steps
 
-pub returns : goal.returns
+pub returns-in-Err : goal.returns-in-Err
 unfolding capture_seen
-returns c = search steps
+returns-in-Err c = rw (c.in-Err.is, c.number.ensures)

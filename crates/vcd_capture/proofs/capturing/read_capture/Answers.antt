@@ -6,7 +6,6 @@ use lib.ListN.{length}
 use Rattle.std.proofs.lemmas.Result.{err_from_is_err_and}
 use Rattle.format.specs.Format.{mr1_not_modelled}
 use Rattle.text.proofs.Laws.Puts.{puts_as}
-use Rattle.vcd_read.specs.Scan.{scan_of}
 use Rattle.vcd_capture.specs.Capture.{log_a, log_b}
 use Rattle.vcd_capture.proofs.Laws.Capture.{from_start, heard_is, Short, five, by-text, eight, none, refused, accepted}
 use Rattle.vcd_capture.proofs.capturing.read_capture.Goals as goal
