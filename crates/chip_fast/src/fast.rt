@@ -5,7 +5,7 @@ ghost use Rattle.events.specs.declared.events.Event.TheVariants.{Acknowledge};
 ghost use Rattle.chip_step.specs.Chip.{refused_of, step_of};
 ghost use Rattle.chip_fast.specs.Fast.{is_tick, at_rest, full_of, sound_tick, sound_answer, hop_of};
 
-use crate::passing::{front_room, has_room, least, pass_counts, pass_device};
+use crate::passing::{front_room, has_room, pass_counts, pass_device};
 use chip_answers::no_lines;
 use chip_device::{Device, device_lines, is_sound};
 use chip_step::{Answer, step};
@@ -164,7 +164,7 @@ pub struct Hopped {
 pub fn hop(device: Device, most: Ticks) -> Hopped
     ensures { result ≡ hop_of device most }
 {
-    let still = least(front_room(device.front), most);
+    let still = Ticks(front_room(device.front).0.min(most.0));
     let state = tick_fully(pass_device(device, still));
     Hopped {
         still: still,

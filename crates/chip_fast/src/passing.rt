@@ -1,6 +1,6 @@
 // Ticks are still while no clock of a channel has a pulse in them and the counter/timer does not come to its end, so that
 // phases and the count move, and nothing else: how many there are room for, and the device when they have passed.
-ghost use Rattle.std.specs.Prelude.{min, ◌≡◌, ltb};
+ghost use Rattle.std.specs.Prelude.{◌≡◌, ltb};
 ghost use Rattle.chip_fast.specs.Passing.{channel_room, front_room, counts_passed, passed_of};
 
 use chip_device::Device;
@@ -36,22 +36,13 @@ pub fn has_room(front: Front) -> bool
     transmitter_b.0 != 0
 }
 
-pub fn least(a: Ticks, b: Ticks) -> Ticks
-    ensures { result ≡ record { 0 = min a.0 b.0 } }
-{
-    if a.0 < b.0 {
-        return a;
-    }
-    b
-}
-
 fn channel_room(side: Side, acr: u8) -> Ticks
     ensures { result ≡ record { 0 = channel_room side acr } }
 {
     let second = acr / 128 == 1;
     let receiver = side_room(side.phases.receiver, second, side.csr / 16);
     let transmitter = side_room(side.phases.transmitter, second, side.csr % 16);
-    least(receiver, transmitter)
+    Ticks(receiver.0.min(transmitter.0))
 }
 
 // How many ticks there are room for.
@@ -61,7 +52,7 @@ pub fn front_room(front: Front) -> Ticks
     let timer = timer_room(front.timer, mode_of(front.acr));
     let a = channel_room(front.a, front.acr);
     let b = channel_room(front.b, front.acr);
-    least(timer, least(a, b))
+    Ticks(timer.0.min(a.0.min(b.0)))
 }
 
 // What moves in still ticks, and nothing else: the phases of the four clocks, the count and the phase of ticks/16.

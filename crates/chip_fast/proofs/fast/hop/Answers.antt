@@ -8,6 +8,6 @@ returns c =
     simp (
       c.tick_fully-state.ensures,
       c.pass_device.ensures,
-      c.least-still.ensures,
+      c.min.ensures,
       c.front_room.ensures,
     )

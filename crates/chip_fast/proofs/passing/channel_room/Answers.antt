@@ -2,4 +2,4 @@
 use Rattle.chip_fast.proofs.passing.channel_room.Goals as goal
 
 pub returns : goal.returns
-returns c = simp (c.least.ensures, c.side_room-transmitter.ensures, c.side_room-receiver.ensures)
+returns c = simp (c.min.ensures, c.side_room-transmitter.ensures, c.side_room-receiver.ensures)

@@ -4,8 +4,8 @@ use Rattle.chip_fast.proofs.passing.front_room.Goals as goal
 pub returns : goal.returns
 returns c =
     simp (
-      c.least-2.ensures,
-      c.least.ensures,
+      c.min-2.ensures,
+      c.min.ensures,
       c.channel_room-b.ensures,
       c.channel_room-a.ensures,
       c.timer_room-timer.ensures,
