@@ -13,6 +13,7 @@ use events::Event;
 use format::Ticks;
 use front_clocks::tick_front;
 use receiver::feed_receiver;
+use refusal::Refusal;
 
 fn is_tick(event: Event) -> bool
     ensures { result ≡ is_tick event }
@@ -65,7 +66,7 @@ fn refuse_unsound(device: Device) -> Answer
     ensures { result ≡ refused_of device 1 }
 {
     Answer {
-        number: 1,
+        number: Refusal::StateUnsound.number(),
         byte: 0,
         fresh: false,
         lines: no_lines(),
@@ -86,7 +87,7 @@ fn acknowledge(device: Device) -> Answer
             answer.number = 0;
             answer.byte = device.front.ivr;
         } else {
-            answer.number = 6;
+            answer.number = Refusal::AcknowledgeUnasserted.number();
         }
     }
     answer

@@ -5,6 +5,7 @@ ghost use Rattle.chip_ticks.specs.Run.{run_of};
 use crate::ticks::spend;
 use chip_answers::{Lines, no_lines};
 use chip_device::{Device, device_lines, is_sound};
+use refusal::Refusal;
 
 // "reports how many ticks it took"; the lines are those of the state.
 #[derive(Clone, Copy)]
@@ -23,7 +24,7 @@ pub fn run(device: Device, budget: u32) -> Ran
 {
     if !is_sound(device) {
         return Ran {
-            number: 1,
+            number: Refusal::StateUnsound.number(),
             ticks: 0,
             lines: no_lines(),
             state: device,
@@ -31,7 +32,7 @@ pub fn run(device: Device, budget: u32) -> Ran
     }
     if budget > MOST_TICKS {
         return Ran {
-            number: 9,
+            number: Refusal::OverLimit.number(),
             ticks: 0,
             lines: device_lines(device),
             state: device,

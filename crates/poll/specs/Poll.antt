@@ -23,9 +23,6 @@ is_refused a = not (eqb a.number 0)
 unfoldable pub poll_refusal : Device → ℕ → ℕ → ℕ
 poll_refusal d listed space = pick (is_sound_of d) (pick (ltb space listed) 8 (pick (ltb 4096 listed) 9 0)) 1
 
-unfoldable pub most_events : ℕ → ℕ → ℕ
-most_events number listed = pick (eqb number 0) listed 0
-
 -- how many answers are written, the last state, and what the space for the answers then holds
 pub record After : Type 0 where
   pub count : ℕ

@@ -2,12 +2,14 @@
 // lent list, equal to the same events one by one; the last state is returned"
 ghost use Rattle.std.specs.Prelude.{◌≡◌};
 ghost use Rattle.poll.specs.Step.{turn_of};
-ghost use Rattle.poll.specs.Poll.{seen_in, is_refused, poll_refusal, most_events, polled_of, answers_after};
+ghost use Rattle.poll.specs.Poll.{seen_in, is_refused, poll_refusal, polled_of, answers_after};
+ghost use Rattle.refusal.specs.Refusal.{answer_number};
 
 use chip_device::{Device, is_sound};
 use chip_fast::sound_step;
 use chip_step::Answer;
 use records::{EventRecord, Seen, event_of, seen_of};
+use refusal::Refusal;
 
 // "the call itself answers 0", or why it is refused; "the count says how many were written"; "the last state"
 #[repr(C)]
@@ -18,30 +20,23 @@ pub struct Polled {
     pub state: Device,
 }
 
+const MOST_EVENTS: usize = 4096;
+
 // "Refusals, in this order and before any event: 1, 8 for answer space shorter than the list, 9 for a list .. over its
 // limit"
-fn poll_refusal(device: Device, length: usize, space: usize) -> u8
-    ensures { result ≡ poll_refusal device length space }
+fn poll_refusal(device: Device, length: usize, space: usize) -> Option<Refusal>
+    ensures { answer_number result ≡ poll_refusal device length space }
 {
-    if is_sound(device) {
-        if space < length {
-            return 8;
-        }
-        if 4096 < length {
-            return 9;
-        }
-        return 0;
+    if !is_sound(device) {
+        return Some(Refusal::StateUnsound);
     }
-    1
-}
-
-fn most_events(number: u8, length: usize) -> usize
-    ensures { result ≡ most_events number length }
-{
-    if number == 0 {
-        return length;
+    if space < length {
+        return Some(Refusal::SpaceShort);
     }
-    0
+    if length > MOST_EVENTS {
+        return Some(Refusal::OverLimit);
+    }
+    None
 }
 
 // The parts of an answer, and the poll's put together.
@@ -86,23 +81,19 @@ pub fn poll(device: Device, events: &[EventRecord], answers: &mut [Seen]) -> Pol
     ensures { (result ≡ polled_of device events.now answers.old)
         × (answers.new ≡ answers_after device events.now answers.old) }
 {
-    let length = events.len();
-    let space = answers.len();
-    let number = poll_refusal(device, length, space);
-    let most = most_events(number, length);
+    if let Some(refusal) = poll_refusal(device, events.len(), answers.len()) {
+        return end_poll(refusal.number(), 0, device);
+    }
     let mut state = device;
-    let mut count = 0usize;
-    while count < most {
-        let event = events[count];
-        let answer = turn(state, event);
+    for (i, event) in events.iter().enumerate() {
+        let answer = turn(state, *event);
         let seen = seen_in(answer);
-        answers[count] = seen;
+        answers[i] = seen;
         let next = state_in(answer);
         state = next;
-        count += 1;
         if is_refused(answer) {
-            return end_poll(number, count, state);
+            return end_poll(0, i + 1, state);
         }
     }
-    end_poll(number, count, state)
+    end_poll(0, events.len(), state)
 }

@@ -1,10 +1,12 @@
 // Order 6: "From a sound state and a list of up to 1,000,000 events, write a value change dump (IEEE 1364) into lent
 // space".
 ghost use Rattle.std.specs.Prelude.{◌≡◌, length};
+ghost use Rattle.refusal.specs.Refusal.{number_of};
 ghost use Rattle.vcd_dump.specs.Dump.{dumped_of, space_after};
 
 use crate::waves::write_waves;
 use chip_device::{Device, is_sound};
+use refusal::Refusal;
 
 // The number, and "the length (0 if refused)".
 #[repr(C)]
@@ -16,11 +18,11 @@ pub struct DumpAnswer {
 
 const MOST_EVENTS: usize = 1000000;
 
-fn refuse(number: u8) -> DumpAnswer
-    ensures { result ≡ record { number = number; length = 0 } }
+fn refuse(refusal: Refusal) -> DumpAnswer
+    ensures { result ≡ record { number = number_of refusal; length = 0 } }
 {
     DumpAnswer {
-        number: number,
+        number: refusal.number(),
         length: 0,
     }
 }
@@ -32,15 +34,15 @@ pub fn dump(device: Device, events: &[u8], space: &mut [u8]) -> DumpAnswer
     ensures space { space.new ≡ space_after device events.now space.old }
 {
     if !is_sound(device) {
-        return refuse(1);
+        return refuse(Refusal::StateUnsound);
     }
     if events.len() / 3 > MOST_EVENTS {
-        return refuse(9);
+        return refuse(Refusal::OverLimit);
     }
     let mut none = [0u8; 0];
     let needed = write_waves(device, events, &mut none);
     if space.len() < needed {
-        return refuse(8);
+        return refuse(Refusal::SpaceShort);
     }
     let length = write_waves(device, events, space);
     DumpAnswer {

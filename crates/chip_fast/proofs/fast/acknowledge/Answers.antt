@@ -14,7 +14,7 @@ pub returns-else-lines : goal.returns-else-lines
 returns-else-lines c =
     let sound = sym c.is_sound.ensures ∙ c.if-is_sound.true in
     let irq = ap (λ (l : Lines). l.irq) (sym c.device_lines-lines.ensures) ∙ c.if-lines.false in
-    rw (c.device_lines-lines.ensures, c.refuse_unsound-answer.ensures) (ack_unasserted _ sound irq)
+    rw (c.device_lines-lines.ensures, c.refuse_unsound-answer.ensures, c.number.ensures) (ack_unasserted _ sound irq)
 
 pub returns-else-is_sound : goal.returns-else-is_sound
 returns-else-is_sound c =

@@ -5,4 +5,4 @@ use Rattle.chip_fast.proofs.fast.refuse_unsound.Goals as goal
 
 pub returns : goal.returns
 unfolding refusal_lines pick
-returns c = simp c.no_lines.ensures
+returns c = simp (c.no_lines.ensures, c.number.ensures)

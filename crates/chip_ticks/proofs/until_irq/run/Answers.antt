@@ -7,12 +7,12 @@ use Rattle.chip_ticks.proofs.Laws.{spent_most, run_unsound, run_over, run_within
 use Rattle.chip_ticks.proofs.until_irq.run.Goals as goal
 
 pub returns-then-not-is_sound : goal.returns-then-not-is_sound
-returns-then-not-is_sound c = simp c.no_lines.ensures (run_unsound _ _ (sym c.is_sound.ensures ∙ c.if-not-is_sound.true))
+returns-then-not-is_sound c = simp (c.no_lines.ensures, c.number.ensures) (run_unsound _ _ (sym c.is_sound.ensures ∙ c.if-not-is_sound.true))
 
 pub returns-then-budget-gt-MOST_TICKS : goal.returns-then-budget-gt-MOST_TICKS
 returns-then-budget-gt-MOST_TICKS c =
     let sound = sym c.is_sound.ensures ∙ c.if-not-is_sound.false in
-    simp c.device_lines.ensures (run_over _ _ sound c.if-budget-gt-MOST_TICKS.true)
+    simp (c.device_lines.ensures, c.number-then-budget-gt-MOST_TICKS.ensures) (run_over _ _ sound c.if-budget-gt-MOST_TICKS.true)
 
 pub spend-spent-requires : goal.spend-spent-requires
 spend-spent-requires c = sym c.is_sound.ensures ∙ c.if-not-is_sound.false

@@ -1,104 +1,84 @@
--- `poll` meets its contract: each turn of the loop takes one event, and the loop is left at a refused one, or where no event is left. Assumes nothing.
+-- `poll` meets its contract: a refused call takes no event; each turn of the loop takes one, and the loop is left at a refused one, or where no event
+-- is left. Assumes nothing.
 use Prim.Native.Nat.{ℕ, ◌+◌, ◌<◌}
-use mathlib.Core.Path.{◌≡◌, refl, sym, ◌∙◌}
+use mathlib.Core.Path.{◌≡◌, sym, ◌∙◌, ap}
 use mathlib.Core.Bool.{true, false}
 use mathlib.Core.List.{List}
+use native.Mathlib.Nat.{le_refl}
 use native.Mathlib.Omega.{arith}
-use lib.ListN.{length, get_or, set, length-set}
+use lib.ListN.{length, get_or, set}
 use borrow.Author.Rules.{rules}
 use Rattle.chip_device.specs.declared.device.Device.{Device}
 use Rattle.records.specs.declared.records.EventRecord.{EventRecord}
 use Rattle.records.specs.declared.records.Seen.{Seen}
+use Rattle.refusal.proofs.Laws.{never_0}
 use Rattle.poll.specs.declared.polling.Polled.{Polled}
 use Rattle.poll.specs.Step.{turn_of}
-use Rattle.poll.specs.Poll.{is_refused, poll_refusal, most_events, after_poll, polled_of}
+use Rattle.poll.specs.Poll.{is_refused, poll_refusal, After, untouched, after_poll, polled_of}
 use Rattle.poll.proofs.Runs.{Done, no_event, settled, over, on, starts}
-use Rattle.poll.proofs.Asked.{most_listed, most_room, asked}
+use Rattle.poll.proofs.Asked.{room_given, asked, refused}
 use Rattle.poll.proofs.polling.poll.Goals as goal
 
--- how many events a call takes
-abbrev most_of : Device → List EventRecord → List Seen → ℕ
-most_of d es xs = most_events (poll_refusal d (length es) (length xs)) (length es)
-
-most_is : (d : Device) (es : List EventRecord) (xs : List Seen) (n m : ℕ) → n ≡ poll_refusal d (length es) (length xs)
-    → m ≡ most_events n (length es) → m ≡ most_of d es xs
-most_is d es xs n m e h = rw (← e) h
-
-is_listed : (d : Device) (es : List EventRecord) (xs : List Seen) (n m i : ℕ) → n ≡ poll_refusal d (length es) (length xs)
-    → m ≡ most_events n (length es) → i < m → i < length es
-is_listed d es xs n m i e h l = omega (arith, most_is d es xs n m e h, most_listed (poll_refusal d (length es) (length xs)) (length es))
-
-has_room : (d : Device) (es : List EventRecord) (xs zs : List Seen) (n m i : ℕ) → n ≡ poll_refusal d (length es) (length xs)
-    → m ≡ most_events n (length es) → length zs ≡ length xs → i < m → i < length zs
-has_room d es xs zs n m i e h k l = omega (arith, most_is d es xs n m e h, most_room d (length es) (length xs))
-
-ends : (d : Device) (es : List EventRecord) (xs zs : List Seen) (n i : ℕ) (s : Device) (r : Polled) → n ≡ poll_refusal d (length es) (length xs)
-    → Done turn_of (after_poll d es xs) es (most_of d es xs) i s zs → r ≡ record { number = n; count = i; state = s } → r ≡ polled_of d es xs
+-- a refused call, and one that is not, put together
+stays : (d : Device) (es : List EventRecord) (xs : List Seen) (n : ℕ) (r : Polled) → n ≡ poll_refusal d (length es) (length xs)
+    → after_poll d es xs ≡ untouched d xs → r ≡ record { number = n; count = 0; state = d } → r ≡ polled_of d es xs
 unfolding polled_of
-ends d es xs zs n i s r e h eq = eq ∙ rw (e, h.count, h.state)
+stays d es xs n r e u eq = eq ∙ rw (e, u)
 
-pub loop-count-init : goal.loop-count-init
-loop-count-init c =
-    let a = c.args in
-    record {
-      within = omega arith;
-      long = refl;
-      sofar = starts turn_of _ a.events.now _ a.device a.answers.now (asked a.device a.events.now a.answers.now);
-    }
+ends : (d : Device) (es : List EventRecord) (xs zs : List Seen) (i : ℕ) (s : Device) (r : Polled) → 0 ≡ poll_refusal d (length es) (length xs)
+    → Done turn_of (after_poll d es xs) es (length es) i s zs → r ≡ record { number = 0; count = i; state = s } → r ≡ polled_of d es xs
+unfolding polled_of
+ends d es xs zs i s r e h eq = eq ∙ rw (← e, h.count, h.state)
 
-pub offset_bounds-events-count : goal.offset_bounds-events-count
-offset_bounds-events-count c =
+pub returns-in-Some : goal.returns-in-Some
+returns-in-Some c =
     let a = c.args in
-    let l : c.loop-count.count < length a.events.now = is_listed a.device a.events.now a.answers.now _ _ _ c.poll_refusal-number.ensures c.most_events-most.ensures c.loop-count-test.true in
+    let first = c.in-Some.ensures in
+    let none = refused a.device a.events.now a.answers.now (λ z. never_0 c.in-Some.refusal (first ∙ z)) in
+    (stays a.device a.events.now a.answers.now _ _ first none (c.end_poll.ensures ∙ rw c.number.ensures), sym (ap (λ (r : After). r.answers) none))
+
+pub loop-i-init : goal.loop-i-init
+loop-i-init c =
+    let a = c.args in
+    starts turn_of _ a.events.now _ a.device a.answers.now (asked a.device a.events.now a.answers.now c.in_default.ensures)
+
+pub offset_bounds-answers-i : goal.offset_bounds-answers-i
+offset_bounds-answers-i c =
+    let a = c.args in
+    let room = room_given a.device (length a.events.now) (length a.answers.now) (sym c.in_default.ensures) in
+    let l : c.loop-i.i < length c.loop-i.answers = omega (arith, room) in
     search rules
 
-pub bounds-events-count : goal.bounds-events-count
-bounds-events-count c =
+pub bounds-answers-i : goal.bounds-answers-i
+bounds-answers-i c =
     let a = c.args in
-    is_listed a.device a.events.now a.answers.now _ _ _ c.poll_refusal-number.ensures c.most_events-most.ensures c.loop-count-test.true
-
-pub offset_bounds-answers-count : goal.offset_bounds-answers-count
-offset_bounds-answers-count c =
-    let a = c.args in
-    let l : c.loop-count.count < length c.loop-count.answers = has_room a.device a.events.now a.answers.now _ _ _ _ c.poll_refusal-number.ensures c.most_events-most.ensures c.loop-count.invariant.long c.loop-count-test.true in
-    search rules
-
-pub bounds-answers-count : goal.bounds-answers-count
-bounds-answers-count c =
-    let a = c.args in
-    has_room a.device a.events.now a.answers.now _ _ _ _ c.poll_refusal-number.ensures c.most_events-most.ensures c.loop-count.invariant.long c.loop-count-test.true
+    omega (arith, room_given a.device (length a.events.now) (length a.answers.now) (sym c.in_default.ensures))
 
 pub returns-then-is_refused : goal.returns-then-is_refused
 returns-then-is_refused c =
     let a = c.args in
-    let m = most_is a.device a.events.now a.answers.now _ _ c.poll_refusal-number.ensures c.most_events-most.ensures in
-    let l : c.loop-count.count < most_of a.device a.events.now a.answers.now = omega (arith, m) in
-    let z = has_room a.device a.events.now a.answers.now c.loop-count.answers _ _ _ c.poll_refusal-number.ensures c.most_events-most.ensures c.loop-count.invariant.long c.loop-count-test.true in
-    let r : is_refused (turn_of c.loop-count.state (get_or a.events.now c.loop-count.count no_event)) ≡ true =
+    let room = room_given a.device (length a.events.now) (length a.answers.now) (sym c.in_default.ensures) in
+    let z : c.loop-i.i < length c.loop-i.answers = omega (arith, room) in
+    let r : is_refused (turn_of c.loop-i.state (get_or a.events.now c.loop-i.i no_event)) ≡ true =
     rw (← c.turn-answer.ensures) (sym c.is_refused.ensures ∙ c.if-is_refused.true) in
-    let done : Done turn_of (after_poll a.device a.events.now a.answers.now) a.events.now (most_of a.device a.events.now a.answers.now) (c.loop-count.count + 1) c.state_in-next.result (set c.loop-count.answers c.loop-count.count c.seen_in-seen.result) =
+    let done : Done turn_of (after_poll a.device a.events.now a.answers.now) a.events.now (length a.events.now) (c.loop-i.i + 1) c.state_in-next.result (set c.loop-i.answers c.loop-i.i c.seen_in-seen.result) =
     rw (c.state_in-next.ensures, c.seen_in-seen.ensures, c.turn-answer.ensures)
-    (over turn_of _ a.events.now _ c.loop-count.count c.loop-count.state c.loop-count.answers c.loop-count.invariant.sofar l (most_listed _ _) z r) in
-    (ends a.device a.events.now a.answers.now _ _ _ _ _ c.poll_refusal-number.ensures done c.end_poll.ensures, done.answers)
+    (over turn_of _ a.events.now _ c.loop-i.i c.loop-i.state c.loop-i.answers c.loop-i.invariant c.loop-i-test.true (le_refl _) z r) in
+    (ends a.device a.events.now a.answers.now _ _ _ _ c.in_default.ensures done c.end_poll-then-is_refused.ensures, done.answers)
 
-pub loop-count-preserved : goal.loop-count-preserved
-loop-count-preserved c =
+pub loop-i-preserved : goal.loop-i-preserved
+loop-i-preserved c =
     let a = c.args in
-    let m = most_is a.device a.events.now a.answers.now _ _ c.poll_refusal-number.ensures c.most_events-most.ensures in
-    let l : c.loop-count.count < most_of a.device a.events.now a.answers.now = omega (arith, m) in
-    let z = has_room a.device a.events.now a.answers.now c.loop-count.answers _ _ _ c.poll_refusal-number.ensures c.most_events-most.ensures c.loop-count.invariant.long c.loop-count-test.true in
-    let r : is_refused (turn_of c.loop-count.state (get_or a.events.now c.loop-count.count no_event)) ≡ false =
+    let room = room_given a.device (length a.events.now) (length a.answers.now) (sym c.in_default.ensures) in
+    let z : c.loop-i.i < length c.loop-i.answers = omega (arith, room) in
+    let r : is_refused (turn_of c.loop-i.state (get_or a.events.now c.loop-i.i no_event)) ≡ false =
     rw (← c.turn-answer.ensures) (sym c.is_refused.ensures ∙ c.if-is_refused.false) in
-    record {
-      within = omega arith;
-      long = length-set _ _ _ ∙ c.loop-count.invariant.long;
-      sofar = rw (c.state_in-next.ensures, c.seen_in-seen.ensures, c.turn-answer.ensures)
-          (on turn_of _ a.events.now _ c.loop-count.count c.loop-count.state c.loop-count.answers c.loop-count.invariant.sofar l (most_listed _ _) z r);
-    }
+    rw (c.state_in-next.ensures, c.seen_in-seen.ensures, c.turn-answer.ensures)
+    (on turn_of _ a.events.now _ c.loop-i.i c.loop-i.state c.loop-i.answers c.loop-i.invariant c.loop-i-test.true (le_refl _) z r)
 
 pub returns : goal.returns
 returns c =
     let a = c.args in
-    let m = most_is a.device a.events.now a.answers.now _ _ c.poll_refusal-number.ensures c.most_events-most.ensures in
-    let done = settled turn_of _ a.events.now _ c.loop-count.count c.loop-count.state c.loop-count.answers c.loop-count.invariant.sofar (omega (arith, m)) (most_listed _ _) in
-    (ends a.device a.events.now a.answers.now _ _ _ _ _ c.poll_refusal-number.ensures done c.end_poll-2.ensures, done.answers)
+    let e : c.loop-i.i ≡ length a.events.now = omega arith in
+    let done = settled turn_of _ a.events.now _ c.loop-i.i c.loop-i.state c.loop-i.answers c.loop-i.invariant e (le_refl _) in
+    (ends a.device a.events.now a.answers.now _ _ _ _ c.in_default.ensures done (c.end_poll-2.ensures ∙ rw e), done.answers)
