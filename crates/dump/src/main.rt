@@ -22,6 +22,7 @@ const ROOM: usize = 3000003;
 // Room for the most text that is dumped.
 const SPACE: usize = 2097152;
 
+// Kept: `replay` has it too; shared, it would be a public function that promises nothing: `Print` tells no bytes.
 fn print_error(errors: &impl Print, line: u64) {
     let mut space = [0u8; 32];
     let length = write_error(line, &mut space);
@@ -131,6 +132,17 @@ fn refuse(errors: &impl Print, number: u8) {
     let _ = errors.print(format_args!("refused {number}\n"));
 }
 
+fn write_dump(output: &impl Print, errors: &impl Print, events: &[u8], space: &mut [u8]) {
+    let answer = dump(fresh(), events, space);
+    let length = answer.length;
+    if answer.number == 0 {
+        let _ = output.write_all(&space[..length]);
+        return;
+    }
+    refuse(errors, answer.number);
+}
+
+// Kept: arrays, not slices: tried, the check of `main` runs out of stack where it lends 3,000,003 bytes as a slice.
 fn show(
     output: &impl Print,
     errors: &impl Print,
@@ -140,13 +152,7 @@ fn show(
 ) {
     let mut events = Events { room, count: 0 };
     take_all(errors, input, &mut events);
-    let answer = dump(fresh(), events.filled(), space);
-    let length = answer.length;
-    if answer.number == 0 {
-        let _ = output.write_all(&space[..length]);
-        return;
-    }
-    refuse(errors, answer.number);
+    write_dump(output, errors, events.filled(), space);
 }
 
 fn main(rt: HostRuntime) {

@@ -201,8 +201,9 @@ fn check(rt: &impl Print, rate: Rate) {
     print_verdict(rt, agrees, rate.verdict);
 }
 
-// The crystal divides twelve exactly and four nearly; the manual's 0.175 is what its clock rounded to 32,056 Hz gives. The
-// last two 16X clocks the table prints otherwise than 16 times their rates, which their error of 0 asks for.
+// The crystal divides twelve exactly and four nearly; the manual's 0.175 is what its clock rounded to 32,056 Hz
+// gives. The last two 16X clocks the table prints otherwise than 16 times their rates, which their error of 0 asks
+// for.
 pub fn examples(rt: &impl Print) {
     let rates = [
         Rate::exact(500, 0, Sets::First, 800),

@@ -18,7 +18,7 @@ fn stop(bench: Bench, turns: u64) -> Stopped {
 // A word that looks at a line takes no time.
 fn drive(bench: Bench, word: Word) -> Stopped {
     match word {
-        Word::Access(event, ..) => stop(act(bench, event), 1),
+        Word::Access { event, .. } => stop(act(bench, event), 1),
         Word::Pins(levels) => stop(act(bench, Event::Pins(levels)), 1),
         Word::Ticks(times) => go(bench, times, |bench, _| tick(bench), |_, _| false),
         Word::Edges(times) => go(
@@ -41,7 +41,7 @@ fn drive(bench: Bench, word: Word) -> Stopped {
             },
             0,
         ),
-        Word::Until(register, mask) => go(
+        Word::Until { register, mask } => go(
             bench,
             MOST_READS,
             |bench, turns| read_turn(bench, register, turns),

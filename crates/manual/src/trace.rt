@@ -29,14 +29,14 @@ fn print_access(rt: &impl Print, event: Event, answer: Answer) {
 fn print_came(rt: &impl Print, word: Word, came: Stopped) {
     let answer = came.bench.answer;
     match word {
-        Word::Access(event, ..) => print_access(rt, event, answer),
+        Word::Access { event, .. } => print_access(rt, event, answer),
         Word::Pins(levels) => print(rt, format_args!("pins:={levels}")),
         Word::Ticks(times) => print(rt, format_args!("ticks {times}")),
         Word::Edges(times) => print(rt, format_args!("IP3 falls, times {times}")),
         Word::Character(Channel::A, byte) => print(rt, format_args!("RxDA<-{byte}")),
         Word::Character(Channel::B, byte) => print(rt, format_args!("RxDB<-{byte}")),
         Word::Wired => print(rt, "TxD wired to RxD"),
-        Word::Until(register, mask) => {
+        Word::Until { register, mask } => {
             let is_set = u8::from(answer.byte & mask != 0);
             print(
                 rt,
@@ -58,7 +58,7 @@ fn print_came(rt: &impl Print, word: Word, came: Stopped) {
 fn print_wanted(rt: &impl Print, word: Word) {
     print(rt, " DIFFERS from ");
     match word {
-        Word::Access(_, number, byte) => {
+        Word::Access { number, byte, .. } => {
             print(rt, byte);
             print_refusal(rt, number);
         }
@@ -68,7 +68,7 @@ fn print_wanted(rt: &impl Print, word: Word) {
         Word::Ticks(times) => print(rt, times),
         Word::Looped(bytes) => print(rt, bytes),
         Word::Wired => print(rt, 0u8),
-        Word::Until(..) => print(rt, 1u8),
+        Word::Until { .. } => print(rt, 1u8),
     }
 }
 

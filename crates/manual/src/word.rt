@@ -23,16 +23,15 @@ use events::Event;
 
 #[derive(Clone, Copy)]
 pub enum Word {
-    // an event of the processor, and the number and the byte that it should be answered with: 0 where none is read
-    Access(Event, u8, u8),
+    // an event of the processor, and what it should be answered with: the byte is 0 where none is read
+    Access { event: Event, number: u8, byte: u8 },
     Pins(u8),
     Ticks(u64),
     // falling edges of IP3
     Edges(u8),
     Character(Channel, u8),
     Wired,
-    // the register and the mask
-    Until(u8, u8),
+    Until { register: u8, mask: u8 },
     // the bytes
     Looped(u16),
     Level(Signal, bool),
@@ -83,24 +82,35 @@ impl Signal {
     }
 }
 
+fn access(event: Event, number: u8, byte: u8) -> Option<Word> {
+    Some(Word::Access {
+        event,
+        number,
+        byte,
+    })
+}
+
 // The word of a letter and its numbers, if it is one.
 fn word_of(letter: char, first: u8, last: u16) -> Option<Word> {
     let byte = (last % 256) as u8;
     match letter {
-        'w' => Some(Word::Access(Event::Write(first, byte), 0, 0)),
-        'r' => Some(Word::Access(Event::Read(first), 0, byte)),
-        'x' => Some(Word::Access(Event::Read(first), byte, 0)),
-        'n' => Some(Word::Access(Event::Write(first, byte), 5, 0)),
-        'f' => Some(Word::Access(Event::Write(first, byte), 4, 0)),
-        'k' => Some(Word::Access(Event::Acknowledge, first, byte)),
-        'z' => Some(Word::Access(Event::ChipReset, 0, 0)),
+        'w' => access(Event::Write(first, byte), 0, 0),
+        'r' => access(Event::Read(first), 0, byte),
+        'x' => access(Event::Read(first), byte, 0),
+        'n' => access(Event::Write(first, byte), 5, 0),
+        'f' => access(Event::Write(first, byte), 4, 0),
+        'k' => access(Event::Acknowledge, first, byte),
+        'z' => access(Event::ChipReset, 0, 0),
         't' => Some(Word::Ticks(u64::from(last))),
         'p' => Some(Word::Pins(byte)),
         'a' => Some(Word::Character(Channel::A, byte)),
         'b' => Some(Word::Character(Channel::B, byte)),
         'c' => Some(Word::Edges(byte)),
         'j' => Some(Word::Wired),
-        'q' => Some(Word::Until(first, byte)),
+        'q' => Some(Word::Until {
+            register: first,
+            mask: byte,
+        }),
         'l' => Some(Word::Looped(last)),
         'i' => Some(Word::Level(Signal::Irq, last == 1)),
         'd' => Some(Word::Level(Signal::TxdA, last == 1)),
@@ -131,8 +141,8 @@ pub fn looped_turns(bytes: u16) -> u64 {
 pub fn agrees(word: Word, came: Stopped) -> bool {
     let answer = came.bench.answer;
     match word {
-        Word::Access(_, number, byte) => answer.number == number && answer.byte == byte,
-        Word::Until(_, mask) => answer.number == 0 && answer.byte & mask != 0,
+        Word::Access { number, byte, .. } => answer.number == number && answer.byte == byte,
+        Word::Until { mask, .. } => answer.number == 0 && answer.byte & mask != 0,
         Word::Looped(bytes) => answer.number == 0 && came.turns == looped_turns(bytes),
         Word::Level(signal, level) => signal.level(answer) == level,
         Word::Outputs(levels) => answer.lines.op == levels,
