@@ -7,7 +7,6 @@ mod lines;
 mod said;
 
 ghost use Rattle.replay_text.specs.Lines.{Within};
-ghost use Rattle.capture.specs.Said.{Lent};
 
 use arguments::{Numbers, argument, read_numbers};
 use said::put_said;
@@ -31,108 +30,72 @@ const SPACE: usize = 468100;
 // Longer than any argument that Linux hands to a program.
 const ARGUMENT: usize = 131072;
 
+// What the program has room for: the text, the two names, a log of each channel, and what is printed.
+#[derive(Drop)]
+struct Room {
+    text: [u8; TEXT],
+    name_a: [u8; ARGUMENT],
+    name_b: [u8; ARGUMENT],
+    log_a: [u8; LOG],
+    log_b: [u8; LOG],
+    space: [u8; SPACE],
+}
+
 // How many bytes are read, until the text is full, the input ends or a read fails: they stand at its start.
+// Kept: each read says how many bytes came; std's own loop, `read_to_end`, fills a Vec, and there is no heap.
 fn read_full(input: &mut impl Read, text: &mut [u8]) -> usize
     ensures { Within result text.new }
 {
     let mut length = 0usize;
     while length < text.len() {
-        let more = input.read(&mut text[length..]).unwrap_or(0);
-        if more == 0 {
-            break;
+        match input.read(&mut text[length..]) {
+            Ok(0) | Err(_) => break,
+            Ok(more) => length += more,
         }
-        length += more;
     }
     length
 }
 
-fn show(
-    rt: &impl Print,
-    input: &mut impl Read,
-    asked: Asked,
-    text: &mut [u8],
-    name_a: &[u8],
-    name_b: &[u8],
-    log_a: &mut [u8],
-    log_b: &mut [u8],
-    space: &mut [u8],
-)
-    requires { Lent log_a.old log_b.old space.old }
-{
-    let length = read_full(input, text);
+fn show(rt: &(impl Print + Env), input: &mut impl Read, asked: Asked, room: &mut Room) {
+    let length_a = argument(rt, 4, &mut room.name_a);
+    let length_b = argument(rt, 5, &mut room.name_b);
+    let length = read_full(input, &mut room.text);
     if length > MOST_TEXT {
         let _ = rt.write_all(b"too long\n");
         return;
     }
-    let end = put_said(asked, &text[..length], name_a, name_b, log_a, log_b, space);
-    let _ = rt.write_all(&space[..end]);
+    let end = put_said(
+        asked,
+        &room.text[..length],
+        &room.name_a[..length_a],
+        &room.name_b[..length_b],
+        &mut room.log_a,
+        &mut room.log_b,
+        &mut room.space,
+    );
+    let _ = rt.write_all(&room.space[..end]);
 }
 
 // Arguments are looked at first: where they cannot be read, the text is not.
-fn run(
-    rt: &(impl Print + Env),
-    input: &mut impl Read,
-    text: &mut [u8],
-    name_a: &mut [u8],
-    name_b: &mut [u8],
-    log_a: &mut [u8],
-    log_b: &mut [u8],
-    space: &mut [u8],
-)
-    requires { Lent log_a.old log_b.old space.old }
-{
-    let numbers = read_numbers(rt, name_a);
+fn run(rt: &(impl Print + Env), input: &mut impl Read, room: &mut Room) {
+    let numbers = read_numbers(rt, &mut room.name_a);
     match numbers {
         Numbers::Wrong => {
             let _ = rt.write_all(b"usage\n");
         }
-        Numbers::Read(asked) => {
-            let length_a = argument(rt, 4, name_a);
-            let length_b = argument(rt, 5, name_b);
-            show(
-                rt,
-                input,
-                asked,
-                text,
-                &name_a[..length_a],
-                &name_b[..length_b],
-                log_a,
-                log_b,
-                space,
-            );
-        }
+        Numbers::Read(asked) => show(rt, input, asked, room),
     }
-}
-
-fn lend(
-    rt: &(impl Print + Env),
-    input: &mut impl Read,
-    text: &mut [u8; TEXT],
-    name_a: &mut [u8; ARGUMENT],
-    name_b: &mut [u8; ARGUMENT],
-    log_a: &mut [u8; LOG],
-    log_b: &mut [u8; LOG],
-    space: &mut [u8; SPACE],
-) {
-    run(rt, input, text, name_a, name_b, log_a, log_b, space);
 }
 
 fn main(rt: HostRuntime) {
     let mut input = rt.stdin();
-    let mut text = [0u8; TEXT];
-    let mut name_a = [0u8; ARGUMENT];
-    let mut name_b = [0u8; ARGUMENT];
-    let mut log_a = [0u8; LOG];
-    let mut log_b = [0u8; LOG];
-    let mut space = [0u8; SPACE];
-    lend(
-        &rt,
-        &mut input,
-        &mut text,
-        &mut name_a,
-        &mut name_b,
-        &mut log_a,
-        &mut log_b,
-        &mut space,
-    );
+    let mut room = Room {
+        text: [0; TEXT],
+        name_a: [0; ARGUMENT],
+        name_b: [0; ARGUMENT],
+        log_a: [0; LOG],
+        log_b: [0; LOG],
+        space: [0; SPACE],
+    };
+    run(&rt, &mut input, &mut room);
 }

@@ -2,8 +2,6 @@
 // crate `replay_script`'s; the text is `vcd_dump`'s.
 #![tactic(auto)]
 
-ghost use Rattle.std.specs.Prelude.{◌≤◌};
-
 use chip_device::fresh;
 use events::Event;
 use input_bytes::InputBytes;
@@ -14,16 +12,17 @@ use std::io::Read;
 use text::put;
 use vcd_dump::dump;
 
-// Where in the script we are, and how many events it has so far.
-#[derive(Clone, Copy)]
-struct Run {
-    place: Place,
-    count: usize,
-}
-
-// One more than a list may have: how many there are past it makes no difference.
+// One more than the 1,000,000 that a list may have, so that it can be refused: how many there are past it makes no
+// difference.
 const TOO_MANY: usize = 1000001;
 
+// Room for as many events.
+const ROOM: usize = 3000003;
+
+// Room for the most text that is dumped.
+const SPACE: usize = 2097152;
+
+// Kept: `replay` has it too; shared, it would be a public function that promises nothing: `Print` tells no bytes.
 fn print_error(errors: &impl Print, line: u64) {
     let mut space = [0u8; 32];
     let _ = errors.write_all(write_error(line, &mut space));
@@ -64,105 +63,76 @@ fn record_of(event: Event) -> EventRecord {
     }
 }
 
-fn add(record: EventRecord, count: usize, events: &mut [u8]) -> usize {
-    if count < TOO_MANY {
-        let at = 3 * count;
-        put(record.kind, at, events);
-        put(record.reg, at + 1, events);
-        put(record.byte, at + 2, events);
-        return count + 1;
-    }
-    count
+// The list of events, three bytes each, filled from the front of the room for it.
+#[derive(Drop)]
+struct Events<'a> {
+    room: &'a mut [u8],
+    count: usize,
 }
 
-// `tick COUNT` is COUNT events.
-fn add_ticks(times: u64, count: usize, events: &mut [u8]) -> usize {
-    let mut left = times;
-    let mut next = count;
-    while left > 0 && next < TOO_MANY {
-        next = add(record_of(Event::Tick), next, events);
-        left -= 1;
-    }
-    next
-}
-
-fn add_line(errors: &impl Print, said: Line, line: u64, count: usize, events: &mut [u8]) -> usize {
-    match said {
-        Line::Skipped => count,
-        Line::Wrong => {
-            print_error(errors, line);
-            count
+impl<'a> Events<'a> {
+    fn push(&mut self, event: Event) {
+        if self.count < TOO_MANY {
+            let record = record_of(event);
+            let at = 3 * self.count;
+            put(record.kind, at, self.room);
+            put(record.reg, at + 1, self.room);
+            put(record.byte, at + 2, self.room);
+            self.count += 1;
         }
-        Line::Ticks(times) => add_ticks(times.0, count, events),
-        Line::One(event) => add(record_of(event), count, events),
+    }
+
+    // `tick COUNT` is COUNT events.
+    fn push_ticks(&mut self, times: u64) {
+        for _ in 0..times {
+            if self.count >= TOO_MANY {
+                return;
+            }
+            self.push(Event::Tick);
+        }
+    }
+
+    fn filled(&self) -> &[u8] {
+        let end = self.count.saturating_mul(3).min(self.room.len());
+        &self.room[..end]
     }
 }
 
-fn end_line(errors: &impl Print, run: Run, events: &mut [u8]) -> Run {
-    let place = run.place;
-    let said = tell(place.reading);
-    let count = add_line(errors, said, place.line, run.count, events);
-    Run {
-        place: next_line(place),
-        count: count,
+fn end_line(errors: &impl Print, place: Place, events: &mut Events<'_>) -> Place {
+    match tell(place.reading) {
+        Line::Skipped => {}
+        Line::Wrong => print_error(errors, place.line),
+        Line::Ticks(times) => events.push_ticks(times.0),
+        Line::One(event) => events.push(event),
     }
+    next_line(place)
 }
 
-fn take_byte(errors: &impl Print, run: Run, byte: u8, events: &mut [u8]) -> Run {
-    if byte == b'\n' {
-        return end_line(errors, run, events);
-    }
-    Run {
-        place: next_place(run.place, byte),
-        count: run.count,
+fn take_byte(errors: &impl Print, place: Place, byte: u8, events: &mut Events<'_>) -> Place {
+    match byte {
+        b'\n' => end_line(errors, place, events),
+        _ => next_place(place, byte),
     }
 }
 
 // A last line with no line end counts, unless it is empty.
-fn take_all(errors: &impl Print, input: impl Read + Drop, events: &mut [u8]) -> usize {
-    let mut run = Run {
-        place: first_place(),
-        count: 0,
-    };
+fn take_all(errors: &impl Print, input: impl Read + Drop, events: &mut Events<'_>) {
+    let mut place = first_place();
     for byte in InputBytes::new(input) {
-        run = take_byte(errors, run, byte, events);
+        place = take_byte(errors, place, byte, events);
     }
-    if run.place.begun {
-        run = end_line(errors, run, events);
+    if place.begun {
+        end_line(errors, place, events);
     }
-    run.count
-}
-
-// How many bytes the events take, of those that there are.
-fn end_of(count: usize, most: usize) -> usize
-    ensures { result ≤ most }
-{
-    if count < TOO_MANY {
-        let end = 3 * count;
-        if end < most {
-            return end;
-        }
-    }
-    most
 }
 
 // A refusal is told on standard error, `refused 9` or `refused 8`; nothing is written to standard output then.
 fn refuse(errors: &impl Print, number: u8) {
-    let _ = errors.write_all(b"refused ");
-    let _ = errors.print(number);
-    let _ = errors.write_all(b"\n");
+    let _ = errors.print(format_args!("refused {number}\n"));
 }
 
-fn show(
-    output: &impl Print,
-    errors: &impl Print,
-    input: impl Read + Drop,
-    events: &mut [u8],
-    space: &mut [u8],
-) {
-    let count = take_all(errors, input, events);
-    let end = end_of(count, events.len());
-    let answer = dump(fresh(), &events[..end], space);
+fn write_dump(output: &impl Print, errors: &impl Print, events: &[u8], space: &mut [u8]) {
+    let answer = dump(fresh(), events, space);
     let length = answer.length;
     if answer.number == 0 {
         let _ = output.write_all(&space[..length]);
@@ -171,20 +141,21 @@ fn show(
     refuse(errors, answer.number);
 }
 
-fn lend(
+// Kept: arrays, not slices: tried, the check of `main` runs out of stack where it lends 3,000,003 bytes as a slice.
+fn show(
     output: &impl Print,
     errors: &impl Print,
     input: impl Read + Drop,
-    events: &mut [u8; 3000003],
-    space: &mut [u8; 2097152],
+    room: &mut [u8; ROOM],
+    space: &mut [u8; SPACE],
 ) {
-    show(output, errors, input, events, space);
+    let mut events = Events { room, count: 0 };
+    take_all(errors, input, &mut events);
+    write_dump(output, errors, events.filled(), space);
 }
 
-// The limits: 1,000,000 events, and one more so that it can be refused, and 2,097,152 bytes of text.
 fn main(rt: HostRuntime) {
-    let errors = rt.stderr();
-    let mut events = [0u8; 3000003];
-    let mut space = [0u8; 2097152];
-    lend(&rt, &errors, rt.stdin(), &mut events, &mut space);
+    let mut room = [0u8; ROOM];
+    let mut space = [0u8; SPACE];
+    show(&rt, &rt.stderr(), rt.stdin(), &mut room, &mut space);
 }

@@ -21,18 +21,14 @@ pub fn start() -> Bench {
     }
 }
 
-fn pins_after(pins: u8, event: Event) -> u8 {
-    match event {
-        Event::Pins(levels) => levels,
-        _ => pins,
-    }
-}
-
 fn take(bench: Bench, event: Event) -> Bench {
-    let state = bench.answer.state;
+    let pins = match event {
+        Event::Pins(levels) => levels,
+        _ => bench.pins,
+    };
     Bench {
-        answer: step(state, event),
-        pins: pins_after(bench.pins, event),
+        answer: step(bench.answer.state, event),
+        pins,
         wired: bench.wired,
     }
 }
@@ -42,43 +38,58 @@ fn weight(level: bool, weight: u8) -> u8 {
 }
 
 // RxDA and RxDB, bits 6 and 7, as the wires have them.
-fn wired_levels(pins: u8, txda: bool, txdb: bool) -> u8 {
-    pins % 64 | weight(txda, 64) | weight(txdb, 128)
+fn wired_levels(pins: u8, lines: Lines) -> u8 {
+    pins % 64 | weight(lines.txda, 64) | weight(lines.txdb, 128)
 }
 
-// A wire passes a level on with the tick.
-fn passes_on(wired: bool, event: Event) -> bool {
-    match event {
-        Event::Tick => wired,
-        _ => false,
-    }
-}
-
-// The event, and the pins after it where a wire passes on what a tick did.
+// The event, and the pins after it: a wire passes on, with the tick, what the tick did.
 pub fn act(bench: Bench, event: Event) -> Bench {
     let next = take(bench, event);
-    let levels = wired_levels(next.pins, next.answer.lines.txda, next.answer.lines.txdb);
-    if passes_on(next.wired, event) & (levels != next.pins) {
+    let levels = wired_levels(next.pins, next.answer.lines);
+    if next.wired && matches!(event, Event::Tick) && levels != next.pins {
         return take(next, Event::Pins(levels));
     }
     next
 }
 
-// What each turn does, and when no more is wanted.
-#[derive(Clone, Copy)]
-pub enum Wish {
-    // a tick
-    Ticks,
-    // a falling edge on IP3, channel A's external transmitter clock
-    Edges,
-    // a tick, while a byte comes in on RxDA (mask 64) or RxDB (mask 128), one bit in 384: 9600 bits a second
-    Character(u8, u8),
-    // a read of a register, after the first one with a tick before it, until one of the masked bits is set
-    Set(u8, u8),
-    // a tick, until TxDA leaves the level
-    Leaves(bool),
-    // an event of the start-up test, until a byte does not come back or a TxD is low
-    Looped,
+pub fn tick(bench: Bench) -> Bench {
+    act(bench, Event::Tick)
+}
+
+// A falling edge on IP3, channel A's external transmitter clock.
+pub fn edge(bench: Bench) -> Bench {
+    act(act(bench, Event::Pins(255)), Event::Pins(247))
+}
+
+// The turns that a bit of a character takes: at 9600 bits a second it is 384 ticks.
+const BIT_TURNS: u64 = 384;
+
+// The turns of a character's ten bits.
+pub const CHARACTER_TURNS: u64 = 10 * BIT_TURNS;
+
+// Bit n of the frame of a byte: start bit, eight data bits, the lowest first, and a high bit.
+fn frame_level(byte: u8, n: u64) -> bool {
+    match n {
+        0 => false,
+        1..=8 => has_bit(byte, (n - 1) as u8),
+        _ => true,
+    }
+}
+
+// A tick, while a byte comes in on RxDA (mask 64) or RxDB (mask 128).
+pub fn character_turn(bench: Bench, mask: u8, byte: u8, turns: u64) -> Bench {
+    if turns % BIT_TURNS != 0 {
+        return tick(bench);
+    }
+    let level = frame_level(byte, turns / BIT_TURNS);
+    let levels = bench.pins & !mask | weight(level, mask);
+    tick(act(bench, Event::Pins(levels)))
+}
+
+// A read of a register, after the first one with a tick before it.
+pub fn read_turn(bench: Bench, register: u8, turns: u64) -> Bench {
+    let next = if turns == 0 { bench } else { tick(bench) };
+    act(next, Event::Read(register))
 }
 
 // The turns that a byte takes in the start-up test.
@@ -90,7 +101,7 @@ fn looped_byte(turns: u64) -> u8 {
 
 // The start-up test, both channels clocked at 1X by the falling edges of IP3 and IP5: byte n to channel A and 255 - n
 // to B, the eleven bits of their frames, both read back, and one bit more.
-fn looped_event(turns: u64) -> Event {
+pub fn looped_event(turns: u64) -> Event {
     let byte = looped_byte(turns);
     let at = turns % LOOPED_TURNS;
     match at {
@@ -102,71 +113,15 @@ fn looped_event(turns: u64) -> Event {
     }
 }
 
-// Whether what was read in the turn before is not the byte that went out, or was no new one.
-fn is_lost(turns: u64, byte: u8, fresh: bool) -> bool {
+// Whether what was read in the turn before is not the byte that went out, or was no new one, or a TxD is low.
+pub fn is_lost(answer: Answer, turns: u64) -> bool {
     let sent = looped_byte(turns);
-    let at = turns % LOOPED_TURNS;
-    match at {
-        25 => !fresh | (byte != sent),
-        26 => !fresh | (byte != 255 - sent),
+    let lost = match turns % LOOPED_TURNS {
+        25 => !answer.fresh || answer.byte != sent,
+        26 => !answer.fresh || answer.byte != 255 - sent,
         _ => false,
-    }
-}
-
-// Bit n of the frame of a byte: start bit, eight data bits, the lowest first, and a high bit.
-fn frame_level(byte: u8, n: u64) -> bool {
-    if n == 0 {
-        return false;
-    }
-    (n > 8) | has_bit(byte, ((n % 16 + 7) % 8) as u8)
-}
-
-// The event before a turn's last one, where there is one; else the last one is all.
-fn has_first(wish: Wish, turns: u64) -> bool {
-    match wish {
-        Wish::Edges => true,
-        Wish::Character(mask, byte) => turns % 384 == 0,
-        Wish::Set(register, mask) => turns != 0,
-        _ => false,
-    }
-}
-
-fn first_event(wish: Wish, turns: u64, pins: u8) -> Event {
-    match wish {
-        Wish::Edges => Event::Pins(255),
-        Wish::Character(mask, byte) => {
-            let level = frame_level(byte, turns / 384);
-            Event::Pins(pins & (255 - mask) | weight(level, mask))
-        }
-        _ => Event::Tick,
-    }
-}
-
-fn last_event(wish: Wish, turns: u64) -> Event {
-    match wish {
-        Wish::Edges => Event::Pins(247),
-        Wish::Set(register, mask) => Event::Read(register),
-        Wish::Looped => looped_event(turns),
-        _ => Event::Tick,
-    }
-}
-
-fn turn(bench: Bench, wish: Wish, turns: u64) -> Bench {
-    let last = last_event(wish, turns);
-    if has_first(wish, turns) {
-        return act(act(bench, first_event(wish, turns, bench.pins)), last);
-    }
-    act(bench, last)
-}
-
-// Of the answer to the turn before: its data byte, whether that is fresh, and the lines.
-fn is_over(wish: Wish, turns: u64, byte: u8, fresh: bool, lines: Lines) -> bool {
-    match wish {
-        Wish::Set(register, mask) => (turns != 0) & (byte & mask != 0),
-        Wish::Leaves(level) => lines.txda != level,
-        Wish::Looped => is_lost(turns, byte, fresh) | !lines.txda | !lines.txdb,
-        _ => false,
-    }
+    };
+    lost || !answer.lines.txda || !answer.lines.txdb
 }
 
 // Where it stopped, and after how many turns.
@@ -176,28 +131,35 @@ pub struct Stopped {
     pub turns: u64,
 }
 
-pub fn go(bench: Bench, wish: Wish, most: u64) -> Stopped {
+// Turn after turn, each told how many were before it, until it is over after the answer to the turn before.
+pub fn go<T: Fn(Bench, u64) -> Bench, O: Fn(Answer, u64) -> bool>(
+    bench: Bench,
+    most: u64,
+    turn: T,
+    is_over: O,
+) -> Stopped
+    requires turn { T.IsAlwaysCallable turn }
+    requires is_over { O.IsAlwaysCallable is_over }
+{
     let mut next = bench;
-    let mut turns = 0u64;
-    while turns < most
-        && !is_over(
-            wish,
-            turns,
-            next.answer.byte,
-            next.answer.fresh,
-            next.answer.lines,
-        )
-    {
-        next = turn(next, wish, turns);
-        turns += 1;
+    for turns in 0..most {
+        if is_over(next.answer, turns) {
+            return Stopped { bench: next, turns };
+        }
+        next = turn(next, turns);
     }
     Stopped {
         bench: next,
-        turns: turns,
+        turns: most,
     }
 }
 
 // How many ticks TxDA stays at this level, at most 100,000.
 pub fn hold(bench: Bench, level: bool) -> Stopped {
-    go(bench, Wish::Leaves(level), 100000)
+    go(
+        bench,
+        100000,
+        |bench, _| tick(bench),
+        |answer, _| answer.lines.txda != level,
+    )
 }

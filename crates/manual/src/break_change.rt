@@ -7,10 +7,10 @@ use crate::script::example;
 fn change_in_break(rt: &impl Print) {
     example(
         rt,
-        b"SIRQ, change in break of channel A (002, 6.4.2.3)",
-        b"w0,19 w0,7 w1,187 w12,64 w5,4 w2,1 t48 i0 p191 t3584 i0 t512 i1 k0,64 r5,6 w2,80 i0 \
+        "SIRQ, change in break of channel A (002, 6.4.2.3)",
+        "w0,19 w0,7 w1,187 w12,64 w5,4 w2,1 t48 i0 p191 t3584 i0 t512 i1 k0,64 r5,6 w2,80 i0 \
         r5,2 t15360 r5,2 p255 t144 i0 t96 i1 k0,64 r5,6 w2,80 i0 r5,2 ",
-        b"as the manual says",
+        "as the manual says",
     );
 }
 
@@ -18,9 +18,9 @@ fn change_in_break(rt: &impl Print) {
 fn null_character(rt: &impl Print) {
     example(
         rt,
-        b"the break's null character, one place of the FIFO, read away (004, 4.3.9.1; 002, 6.4.1.3)",
-        b"w0,19 w0,7 w1,187 w2,1 t48 p191 t20480 r1,129 p255 t384 r3,0 r1,0 a65 r1,1 r3,65 ",
-        b"as the manual says",
+        "the break's null character, one place of the FIFO, read away (004, 4.3.9.1; 002, 6.4.1.3)",
+        "w0,19 w0,7 w1,187 w2,1 t48 p191 t20480 r1,129 p255 t384 r3,0 r1,0 a65 r1,1 r3,65 ",
+        "as the manual says",
     );
 }
 
@@ -28,10 +28,10 @@ fn null_character(rt: &impl Print) {
 fn break_in_a_character(rt: &impl Print) {
     example(
         rt,
-        b"a break that starts in the middle of a character (004, 3.2 and 4.3.9.1)",
-        b"w0,19 w0,7 w1,187 w2,1 t48 p191 t384 p255 t384 p191 t3072 r1,65 r5,2 t4096 r5,6 \
+        "a break that starts in the middle of a character (004, 3.2 and 4.3.9.1)",
+        "w0,19 w0,7 w1,187 w2,1 t48 p191 t384 p255 t384 p191 t3072 r1,65 r5,2 t4096 r5,6 \
         r1,65 r3,1 r1,129 r3,0 r1,0 ",
-        b"as the manual says",
+        "as the manual says",
     );
 }
 

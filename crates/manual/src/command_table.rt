@@ -4,37 +4,37 @@ use crate::script::example;
 fn pointer_commands(rt: &impl Print) {
     example(
         rt,
-        b"command 000, no command (004, 4.3.7.2)",
-        b"w0,19 w0,7 w2,5 r1,12 w2,0 r1,12 r0,7 d1 ",
-        b"as the manual says",
+        "command 000, no command (004, 4.3.7.2)",
+        "w0,19 w0,7 w2,5 r1,12 w2,0 r1,12 r0,7 d1 ",
+        "as the manual says",
     );
     example(
         rt,
-        b"command 001, reset mode register pointer (004, 4.3.7.2; bit 7 not used, 4.3.7.1)",
-        b"w0,19 w0,7 w2,5 r0,7 w2,16 r0,19 r0,7 r1,12 w2,144 r0,19 r0,7 ",
-        b"as the manual says",
+        "command 001, reset mode register pointer (004, 4.3.7.2; bit 7 not used, 4.3.7.1)",
+        "w0,19 w0,7 w2,5 r0,7 w2,16 r0,19 r0,7 r1,12 w2,144 r0,19 r0,7 ",
+        "as the manual says",
     );
 }
 
 fn resets(rt: &impl Print) {
     example(
         rt,
-        b"command 010, reset receiver (004, 4.3.7.2)",
-        b"w0,19 w0,7 w1,187 w2,5 t48 a1 a2 a3 r1,15 w2,32 r1,12 a4 r1,12 w2,17 t48 a5 r1,13 \
+        "command 010, reset receiver (004, 4.3.7.2)",
+        "w0,19 w0,7 w1,187 w2,5 t48 a1 a2 a3 r1,15 w2,32 r1,12 a4 r1,12 w2,17 t48 a5 r1,13 \
         r3,5 r0,19 r0,7 ",
-        b"as the manual says",
+        "as the manual says",
     );
     example(
         rt,
-        b"command 011, reset transmitter (004, 4.3.7.2)",
-        b"w0,19 w0,7 w1,187 w2,5 w3,0 t48 w3,1 d0 r1,0 w2,48 d1 r1,0 t7936 d1 a65 r1,1 r3,65 ",
-        b"as the manual says",
+        "command 011, reset transmitter (004, 4.3.7.2)",
+        "w0,19 w0,7 w1,187 w2,5 w3,0 t48 w3,1 d0 r1,0 w2,48 d1 r1,0 t7936 d1 a65 r1,1 r3,65 ",
+        "as the manual says",
     );
     example(
         rt,
-        b"reset and enable transmitter in one word (004, 4.3.7: conflicting, \"cannot be specified in a single command word\")",
-        b"w2,4 r1,12 w2,52 r1,12 ",
-        b"01 decides: bits 6-4 first, then bits 3-2",
+        "reset and enable transmitter in one word (004, 4.3.7: conflicting, \"cannot be specified in a single command word\")",
+        "w2,4 r1,12 w2,52 r1,12 ",
+        "01 decides: bits 6-4 first, then bits 3-2",
     );
 }
 
@@ -42,16 +42,16 @@ fn resets(rt: &impl Print) {
 fn errors(rt: &impl Print) {
     example(
         rt,
-        b"command 100, reset error status (004, 4.3.7.2)",
-        b"w0,3 w0,7 w1,187 w2,5 t48 a85 t384 r1,45 a84 t384 a51 t384 a1 t384 r1,47 a2 t384 \
+        "command 100, reset error status (004, 4.3.7.2)",
+        "w0,3 w0,7 w1,187 w2,5 t48 a85 t384 r1,45 a84 t384 a51 t384 a1 t384 r1,47 a2 t384 \
         r1,63 w2,64 r1,15 r3,85 r1,15 r3,84 r1,45 r3,51 r1,13 r3,2 r1,12 ",
-        b"as the manual says",
+        "as the manual says",
     );
     example(
         rt,
-        b"command 101, reset break change interrupt (004, 4.3.7.2)",
-        b"w0,19 w0,7 w1,187 w2,1 t48 p191 t4096 r5,6 r1,129 w2,80 r5,2 r1,129 ",
-        b"as the manual says",
+        "command 101, reset break change interrupt (004, 4.3.7.2)",
+        "w0,19 w0,7 w1,187 w2,1 t48 p191 t4096 r5,6 r1,129 w2,80 r5,2 r1,129 ",
+        "as the manual says",
     );
 }
 
@@ -59,86 +59,86 @@ fn errors(rt: &impl Print) {
 fn start_break(rt: &impl Print) {
     example(
         rt,
-        b"command 110, start break, transmitter empty (004, 4.3.7.2: \"delayed up to two bit times\")",
-        b"w0,19 w0,7 w1,187 w2,4 w2,96 t768 d0 t15360 d0 r1,12 r0,7 ",
-        b"as the manual says",
+        "command 110, start break, transmitter empty (004, 4.3.7.2: \"delayed up to two bit times\")",
+        "w0,19 w0,7 w1,187 w2,4 w2,96 t768 d0 t15360 d0 r1,12 r0,7 ",
+        "as the manual says",
     );
     example(
         rt,
-        b"command 110, start break, a character held (004, 4.3.7.2: the break \"will be delayed until that character\" is sent)",
-        b"w0,19 w0,7 w1,187 w2,4 w3,85 w2,96 t216 d0 t384 d1 t384 d0 t384 d1 t384 d0 t384 d1 \
+        "command 110, start break, a character held (004, 4.3.7.2: the break \"will be delayed until that character\" is sent)",
+        "w0,19 w0,7 w1,187 w2,4 w3,85 w2,96 t216 d0 t384 d1 t384 d0 t384 d1 t384 d0 t384 d1 \
         t384 d0 t384 d1 t384 d0 t384 d1 t384 d0 t15360 d0 ",
-        b"as the manual says; 01 decides: 004 before 002, which sends the held character after the break",
+        "as the manual says; 01 decides: 004 before 002, which sends the held character after the break",
     );
     example(
         rt,
-        b"command 110, start break while disabled (002, 6.4.1.5: \"must be enabled for this command to be accepted\")",
-        b"w0,19 w0,7 w1,187 w2,96 t768 d1 ",
-        b"as the manual says",
+        "command 110, start break while disabled (002, 6.4.1.5: \"must be enabled for this command to be accepted\")",
+        "w0,19 w0,7 w1,187 w2,96 t768 d1 ",
+        "as the manual says",
     );
 }
 
 fn stop_break(rt: &impl Print) {
     example(
         rt,
-        b"command 111, stop break (004, 4.3.7.2: high \"within two bit times\" and \"for one bit time before the next character\")",
-        b"w0,19 w0,7 w1,187 w2,4 w2,96 t768 w3,0 d0 w2,112 d1 r1,0 t384 d1 t48 d0 r1,4 ",
-        b"as the manual says; 01 decides: high at once",
+        "command 111, stop break (004, 4.3.7.2: high \"within two bit times\" and \"for one bit time before the next character\")",
+        "w0,19 w0,7 w1,187 w2,4 w2,96 t768 w3,0 d0 w2,112 d1 r1,0 t384 d1 t48 d0 r1,4 ",
+        "as the manual says; 01 decides: high at once",
     );
 }
 
 fn transmitter_commands(rt: &impl Print) {
     example(
         rt,
-        b"transmitter command 01, enable (004, 4.3.7.3; 002, 6.4.1.5: \"TxEMP and TxRDY bits in the DUSR are also set\")",
-        b"r1,0 w2,4 r1,12 w2,4 r1,12 r9,0 ",
-        b"as the manual says",
+        "transmitter command 01, enable (004, 4.3.7.3; 002, 6.4.1.5: \"TxEMP and TxRDY bits in the DUSR are also set\")",
+        "r1,0 w2,4 r1,12 w2,4 r1,12 r9,0 ",
+        "as the manual says",
     );
     example(
         rt,
-        b"transmitter command 10, disable (004, 4.3.7.3: \"the transmission of the character is completed\")",
-        b"w0,19 w0,7 w1,187 w2,4 w3,129 t216 d0 w2,8 r1,0 t384 d1 t384 d0 t1920 d0 t384 d1 \
+        "transmitter command 10, disable (004, 4.3.7.3: \"the transmission of the character is completed\")",
+        "w0,19 w0,7 w1,187 w2,4 w3,129 t216 d0 w2,8 r1,0 t384 d1 t384 d0 t1920 d0 t384 d1 \
         t768 d1 r1,0 ",
-        b"as the manual says",
+        "as the manual says",
     );
     example(
         rt,
-        b"transmitter command 11, do not use (004, 4.3.7.3)",
-        b"w2,4 f2,12 r1,12 ",
-        b"01 decides: refused with 4, nothing altered",
+        "transmitter command 11, do not use (004, 4.3.7.3)",
+        "w2,4 f2,12 r1,12 ",
+        "01 decides: refused with 4, nothing altered",
     );
 }
 
 fn receiver_commands(rt: &impl Print) {
     example(
         rt,
-        b"receiver command 01, enable (004, 4.3.7.4)",
-        b"w0,19 w0,7 w1,187 a65 r1,0 w2,1 t48 a65 r1,1 r3,65 r1,0 ",
-        b"as the manual says",
+        "receiver command 01, enable (004, 4.3.7.4)",
+        "w0,19 w0,7 w1,187 a65 r1,0 w2,1 t48 a65 r1,1 r3,65 r1,0 ",
+        "as the manual says",
     );
     example(
         rt,
-        b"receiver command 01, enable again in a character (004, 4.3.7.4: \"forces the receiver into the search-for-start-bit state\")",
-        b"w0,19 w0,7 w1,187 w2,1 t48 p191 t384 p255 w2,1 t3840 r1,1 r3,255 ",
-        b"01 decides: enabling it again changes nothing, so the character arrives",
+        "receiver command 01, enable again in a character (004, 4.3.7.4: \"forces the receiver into the search-for-start-bit state\")",
+        "w0,19 w0,7 w1,187 w2,1 t48 p191 t384 p255 w2,1 t3840 r1,1 r3,255 ",
+        "01 decides: enabling it again changes nothing, so the character arrives",
     );
     example(
         rt,
-        b"receiver command 10, disable (004, 4.3.7.4: \"a character being received\" is lost, no effect on the status bits)",
-        b"w0,19 w0,7 w1,187 w2,1 t48 a65 r1,1 p191 t1024 w2,2 p255 t3840 r1,1 r3,65 r1,0 ",
-        b"as the manual says",
+        "receiver command 10, disable (004, 4.3.7.4: \"a character being received\" is lost, no effect on the status bits)",
+        "w0,19 w0,7 w1,187 w2,1 t48 a65 r1,1 p191 t1024 w2,2 p255 t3840 r1,1 r3,65 r1,0 ",
+        "as the manual says",
     );
     example(
         rt,
-        b"receiver command 10, disable with one waiting (004, 4.3.7.4: \"waiting in the shift register\" is lost)",
-        b"w0,19 w0,7 w1,187 w2,1 t48 a1 a2 a3 a4 w2,2 r3,1 r1,3 r3,2 r3,3 r3,4 r1,0 ",
-        b"01 decides: a disable drops the character being put together, no more, so the fourth is read",
+        "receiver command 10, disable with one waiting (004, 4.3.7.4: \"waiting in the shift register\" is lost)",
+        "w0,19 w0,7 w1,187 w2,1 t48 a1 a2 a3 a4 w2,2 r3,1 r1,3 r3,2 r3,3 r3,4 r1,0 ",
+        "01 decides: a disable drops the character being put together, no more, so the fourth is read",
     );
     example(
         rt,
-        b"receiver command 11, do not use (004, 4.3.7.4)",
-        b"w2,1 f2,3 r1,0 ",
-        b"01 decides: refused with 4, nothing altered",
+        "receiver command 11, do not use (004, 4.3.7.4)",
+        "w2,1 f2,3 r1,0 ",
+        "01 decides: refused with 4, nothing altered",
     );
 }
 

@@ -5,15 +5,15 @@ use crate::script::example;
 fn terminal_counts(rt: &impl Print) {
     example(
         rt,
-        b"ISR bit 3 in counter mode, \"set when the counter reaches terminal count\" (004, 4.3.15.5)",
-        b"w4,48 w6,0 w7,3 r14,0 t47 r5,0 t1 r5,8 ",
-        b"as the manual says",
+        "ISR bit 3 in counter mode, \"set when the counter reaches terminal count\" (004, 4.3.15.5)",
+        "w4,48 w6,0 w7,3 r14,0 t47 r5,0 t1 r5,8 ",
+        "as the manual says",
     );
     example(
         rt,
-        b"ISR bit 3 in timer mode, \"set each time the timer output switches from low to high\" (004, 4.3.15.5)",
-        b"w13,4 w4,96 w6,0 w7,2 r14,0 o255 t2 o247 r5,0 t2 o255 r5,8 r15,0 t2 o247 r5,0 t2 o255 r5,8 ",
-        b"as the manual says",
+        "ISR bit 3 in timer mode, \"set each time the timer output switches from low to high\" (004, 4.3.15.5)",
+        "w13,4 w4,96 w6,0 w7,2 r14,0 o255 t2 o247 r5,0 t2 o255 r5,8 r15,0 t2 o247 r5,0 t2 o255 r5,8 ",
+        "as the manual says",
     );
 }
 
@@ -22,36 +22,36 @@ fn terminal_counts(rt: &impl Print) {
 fn timer_start(rt: &impl Print) {
     example(
         rt,
-        b"timer start, a low-to-high transition, \"this bit would be set\" (004, 4.3.15.5, the MC68681; order 4)",
-        b"w13,4 w5,8 w4,96 w6,0 w7,2 r14,0 t3 o247 r5,0 i0 r14,0 o255 r5,8 i1 t3 o247 r15,0 r5,0 i0 r14,0 r5,8 i1 ",
-        b"as the manual says",
+        "timer start, a low-to-high transition, \"this bit would be set\" (004, 4.3.15.5, the MC68681; order 4)",
+        "w13,4 w5,8 w4,96 w6,0 w7,2 r14,0 t3 o247 r5,0 i0 r14,0 o255 r5,8 i1 t3 o247 r15,0 r5,0 i0 r14,0 r5,8 i1 ",
+        "as the manual says",
     );
     example(
         rt,
-        b"timer start, the output high already (004, 4.3.15.5)",
-        b"w13,4 w4,96 w6,0 w7,2 r14,0 t1 r14,0 o255 r5,0 t4 r5,8 r14,0 r5,8 r15,0 r14,0 r5,0 t3 r5,0 t1 r5,8 ",
-        b"as the manual says",
+        "timer start, the output high already (004, 4.3.15.5)",
+        "w13,4 w4,96 w6,0 w7,2 r14,0 t1 r14,0 o255 r5,0 t4 r5,8 r14,0 r5,8 r15,0 r14,0 r5,0 t3 r5,0 t1 r5,8 ",
+        "as the manual says",
     );
     example(
         rt,
-        b"timer start, a low-to-high transition and a transmitter on the timer, code 13 (004, 4.3.15.5)",
-        b"w0,19 w0,7 w1,221 w4,96 w6,0 w7,2 r14,0 t3 w2,4 w3,85 r14,0 r5,8 d1 t3 d1 t1 d0 ",
-        b"01 decides: a start gives no pulse, though it sets the bit",
+        "timer start, a low-to-high transition and a transmitter on the timer, code 13 (004, 4.3.15.5)",
+        "w0,19 w0,7 w1,221 w4,96 w6,0 w7,2 r14,0 t3 w2,4 w3,85 r14,0 r5,8 d1 t3 d1 t1 d0 ",
+        "01 decides: a start gives no pulse, though it sets the bit",
     );
 }
 
 fn mode_and_stop(rt: &impl Print) {
     example(
         rt,
-        b"ISR bit 3, another mode raises the output (004, 4.3.15.5: \"each time the timer output switches\")",
-        b"w13,4 w4,96 w6,0 w7,2 r14,0 t3 o247 w4,112 o255 r5,0 ",
-        b"01 decides: a change of ACR 6-4 drives the output high, setting no bit",
+        "ISR bit 3, another mode raises the output (004, 4.3.15.5: \"each time the timer output switches\")",
+        "w13,4 w4,96 w6,0 w7,2 r14,0 t3 o247 w4,112 o255 r5,0 ",
+        "01 decides: a change of ACR 6-4 drives the output high, setting no bit",
     );
     example(
         rt,
-        b"ISR bit 3: \"In either mode, the bit is cleared by a C/T stop command.\" (004, 4.3.15.5)",
-        b"w4,48 w6,0 w7,1 r14,0 t16 r5,8 r15,0 r5,0 w4,96 w7,2 r14,0 t4 r5,8 r15,0 r5,0 ",
-        b"as the manual says",
+        "ISR bit 3: \"In either mode, the bit is cleared by a C/T stop command.\" (004, 4.3.15.5)",
+        "w4,48 w6,0 w7,1 r14,0 t16 r5,8 r15,0 r5,0 w4,96 w7,2 r14,0 t4 r5,8 r15,0 r5,0 ",
+        "as the manual says",
     );
 }
 

@@ -5,9 +5,9 @@ use crate::script::example;
 fn inch(rt: &impl Print) {
     example(
         rt,
-        b"INCH \"gets a character from the channel receiver\", three times (002, 6.4.2.2)",
-        b"w0,19 w0,7 w1,187 w2,5 t48 r1,12 a65 a66 q1,1 r3,65 g1 a67 q1,1 r3,66 g1 q1,1 r3,67 g1 r1,12 g0 ",
-        b"as the manual says",
+        "INCH \"gets a character from the channel receiver\", three times (002, 6.4.2.2)",
+        "w0,19 w0,7 w1,187 w2,5 t48 r1,12 a65 a66 q1,1 r3,65 g1 a67 q1,1 r3,66 g1 q1,1 r3,67 g1 r1,12 g0 ",
+        "as the manual says",
     );
 }
 
@@ -16,9 +16,9 @@ fn inch(rt: &impl Print) {
 fn inch_unasked(rt: &impl Print) {
     example(
         rt,
-        b"INCH without its wait: what is read again is stale, and so after a receiver reset (order 1)",
-        b"w0,19 w0,7 w1,187 w2,5 t48 r3,0 g0 a65 r3,65 g1 r3,65 g0 a65 a66 r3,65 g1 w2,33 g0 r3,65 g0 t48 a67 r3,67 g1 r3,67 g0 ",
-        b"as order 1 says",
+        "INCH without its wait: what is read again is stale, and so after a receiver reset (order 1)",
+        "w0,19 w0,7 w1,187 w2,5 t48 r3,0 g0 a65 r3,65 g1 r3,65 g0 a65 a66 r3,65 g1 w2,33 g0 r3,65 g0 t48 a67 r3,67 g1 r3,67 g0 ",
+        "as order 1 says",
     );
 }
 
@@ -26,10 +26,10 @@ fn inch_unasked(rt: &impl Print) {
 fn outch(rt: &impl Print) {
     example(
         rt,
-        b"OUTCH \"is used to send a character to the channel transmitter\", 65 bit by bit (002, 6.4.2.2)",
-        b"w0,19 w0,7 w1,187 w2,5 q1,4 w3,65 t216 d0 t384 d1 t384 d0 t384 d0 t384 d0 t384 d0 \
+        "OUTCH \"is used to send a character to the channel transmitter\", 65 bit by bit (002, 6.4.2.2)",
+        "w0,19 w0,7 w1,187 w2,5 q1,4 w3,65 t216 d0 t384 d1 t384 d0 t384 d0 t384 d0 t384 d0 \
         t384 d0 t384 d1 t384 d0 t384 d1 q1,8 d1 ",
-        b"as the manual says",
+        "as the manual says",
     );
 }
 
@@ -37,10 +37,10 @@ fn outch(rt: &impl Print) {
 fn both(rt: &impl Print) {
     example(
         rt,
-        b"OUTCH of 77, 105, 108, 108 and INCH of the same over a wire (002, 6.4.2.2)",
-        b"w0,19 w0,7 w1,187 j w2,5 q1,4 w3,77 q1,4 w3,105 q1,1 r3,77 q1,4 w3,108 q1,4 w3,108 \
+        "OUTCH of 77, 105, 108, 108 and INCH of the same over a wire (002, 6.4.2.2)",
+        "w0,19 w0,7 w1,187 j w2,5 q1,4 w3,77 q1,4 w3,105 q1,1 r3,77 q1,4 w3,108 q1,4 w3,108 \
         q1,1 r3,105 q1,1 r3,108 q1,1 r3,108 q1,8 r1,12 ",
-        b"as the manual says",
+        "as the manual says",
     );
 }
 

@@ -9,18 +9,18 @@ use crate::script::example;
 fn sequence(rt: &impl Print) {
     example(
         rt,
-        b"initialization sequence, both channels, the steps of 002 with values chosen here (002, 6.5)",
-        b"w2,32 w2,48 w10,32 w10,48 w12,64 w5,34 w4,129 w13,48 w1,187 w0,19 w0,7 w2,5 w9,187 \
+        "initialization sequence, both channels, the steps of 002 with values chosen here (002, 6.5)",
+        "w2,32 w2,48 w10,32 w10,48 w12,64 w5,34 w4,129 w13,48 w1,187 w0,19 w0,7 w2,5 w9,187 \
         w8,102 w8,15 w10,5 r12,64 r0,7 w2,16 r0,19 r0,7 r8,15 w10,16 r8,102 r8,15 r1,12 \
         r9,12 r5,17 r4,15 r13,255 o255 i0 ",
-        b"as the manual says",
+        "as the manual says",
     );
     example(
         rt,
-        b"initialization sequence of channel A, then a character comes in (002, 6.5 and 6.3.6.3)",
-        b"w2,32 w2,48 w12,64 w5,34 w4,129 w13,48 w1,187 w0,19 w0,7 w2,5 t48 a90 r1,13 r5,3 i1 \
+        "initialization sequence of channel A, then a character comes in (002, 6.5 and 6.3.6.3)",
+        "w2,32 w2,48 w12,64 w5,34 w4,129 w13,48 w1,187 w0,19 w0,7 w2,5 t48 a90 r1,13 r5,3 i1 \
         o239 k0,64 r3,90 r1,12 i0 o255 ",
-        b"as the manual says",
+        "as the manual says",
     );
 }
 
@@ -31,17 +31,17 @@ fn sequence(rt: &impl Print) {
 fn self_test(rt: &impl Print) {
     example(
         rt,
-        b"SINIT and CHCHK, channel A (002, 6.4.2.1)",
-        b"w2,32 w2,48 w1,187 w0,3 w0,135 w2,5 t24 q1,4 w3,85 q1,1 r1,5 r3,85 q1,8 r1,12 d1 w2,10 \
+        "SINIT and CHCHK, channel A (002, 6.4.2.1)",
+        "w2,32 w2,48 w1,187 w0,3 w0,135 w2,5 t24 q1,4 w3,85 q1,1 r1,5 r3,85 q1,8 r1,12 d1 w2,10 \
         w0,7 w2,5 r0,7 r1,12 d1 w3,0 t24 d0 ",
-        b"as the manual says",
+        "as the manual says",
     );
     example(
         rt,
-        b"SINIT and CHCHK, channel B (002, 6.4.2.1)",
-        b"w10,32 w10,48 w9,187 w8,3 w8,135 w10,5 t24 q9,4 w11,170 q9,1 r9,5 r11,170 q9,8 r9,12 e1 \
+        "SINIT and CHCHK, channel B (002, 6.4.2.1)",
+        "w10,32 w10,48 w9,187 w8,3 w8,135 w10,5 t24 q9,4 w11,170 q9,1 r9,5 r11,170 q9,8 r9,12 e1 \
         w10,10 w8,7 w10,5 r8,7 r9,12 e1 w11,0 t24 e0 ",
-        b"as the manual says",
+        "as the manual says",
     );
 }
 
@@ -51,21 +51,21 @@ fn self_test(rt: &impl Print) {
 fn self_test_errors(rt: &impl Print) {
     example(
         rt,
-        b"CHCHK, transmitter never ready: not enabled (002, 6.4.2.1; 004, 4.3.2.1: \"The transmitter must be enabled\")",
-        b"w1,187 w0,3 w0,135 w2,1 t24 r1,0 w3,85 t4608 r1,0 r3,0 g0 ",
-        b"as the manual says",
+        "CHCHK, transmitter never ready: not enabled (002, 6.4.2.1; 004, 4.3.2.1: \"The transmitter must be enabled\")",
+        "w1,187 w0,3 w0,135 w2,1 t24 r1,0 w3,85 t4608 r1,0 r3,0 g0 ",
+        "as the manual says",
     );
     example(
         rt,
-        b"CHCHK, receiver never ready: 0 written before a pulse has passed (002, 6.4.2.1)",
-        b"w1,187 w0,3 w0,135 w2,5 w3,0 t4608 r1,12 r3,0 g0 w3,85 q1,1 r1,5 r3,85 ",
-        b"01 decides: a receiver just enabled must sample a high before a low counts",
+        "CHCHK, receiver never ready: 0 written before a pulse has passed (002, 6.4.2.1)",
+        "w1,187 w0,3 w0,135 w2,5 w3,0 t4608 r1,12 r3,0 g0 w3,85 q1,1 r1,5 r3,85 ",
+        "01 decides: a receiver just enabled must sample a high before a low counts",
     );
     example(
         rt,
-        b"CHCHK, parity error and incorrect character: 85 written before a pulse has passed (002, 6.4.2.1)",
-        b"w1,187 w0,3 w0,135 w2,5 w3,85 t4608 r1,12 t216 r1,45 r3,149 w3,85 q1,1 r1,5 r3,85 ",
-        b"01 decides: a receiver just enabled must sample a high before a low counts",
+        "CHCHK, parity error and incorrect character: 85 written before a pulse has passed (002, 6.4.2.1)",
+        "w1,187 w0,3 w0,135 w2,5 w3,85 t4608 r1,12 t216 r1,45 r3,149 w3,85 q1,1 r1,5 r3,85 ",
+        "01 decides: a receiver just enabled must sample a high before a low counts",
     );
 }
 

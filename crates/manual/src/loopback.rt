@@ -8,17 +8,17 @@ use crate::script::example;
 fn start_up(rt: &impl Print) {
     example(
         rt,
-        b"start-up test, both channels in local loopback, 0 to 255 in A and 255 to 0 in B (order 2; 004, 3.3.2)",
-        b"w0,35 w0,135 w1,255 w2,5 w8,39 w8,135 w9,255 w10,5 p215 p255 l256 d1 e1 r1,12 r9,12 \
+        "start-up test, both channels in local loopback, 0 to 255 in A and 255 to 0 in B (order 2; 004, 3.3.2)",
+        "w0,35 w0,135 w1,255 w2,5 w8,39 w8,135 w9,255 w10,5 p215 p255 l256 d1 e1 r1,12 r9,12 \
         r3,255 g0 r11,0 g0 ",
-        b"as order 2 says",
+        "as order 2 says",
     );
     example(
         rt,
-        b"01's case 7 in local loopback, 1 to 5 sent (order 2: \"the same reads and the same SR bits 4, 1 and 0\")",
-        b"w0,19 w0,135 w1,187 w2,5 t24 w3,1 q1,4 w3,2 q1,4 w3,3 q1,4 w3,4 q1,8 r1,15 w3,5 t215 \
+        "01's case 7 in local loopback, 1 to 5 sent (order 2: \"the same reads and the same SR bits 4, 1 and 0\")",
+        "w0,19 w0,135 w1,187 w2,5 t24 w3,1 q1,4 w3,2 q1,4 w3,3 q1,4 w3,4 q1,8 r1,15 w3,5 t215 \
         r1,7 t1 r1,23 q1,8 r1,31 r3,1 r3,2 r3,3 r3,5 g1 r1,28 ",
-        b"as order 2 says",
+        "as order 2 says",
     );
 }
 
@@ -26,22 +26,22 @@ fn start_up(rt: &impl Print) {
 fn local_line(rt: &impl Print) {
     example(
         rt,
-        b"local loopback, \"The transmit clock is used for the receiver\": 9600, the receiver's own 300 (004, 4.3.2.1)",
-        b"w0,19 w0,135 w1,75 w2,5 t24 w3,85 t3671 r1,4 t1 r1,5 r3,85 g1 ",
-        b"as the manual says",
+        "local loopback, \"The transmit clock is used for the receiver\": 9600, the receiver's own 300 (004, 4.3.2.1)",
+        "w0,19 w0,135 w1,75 w2,5 t24 w3,85 t3671 r1,4 t1 r1,5 r3,85 g1 ",
+        "as the manual says",
     );
     example(
         rt,
-        b"local loopback, \"The channel A receiver serial-data input is ignored\" (004, 4.3.2.1)",
-        b"w0,19 w0,135 w1,187 w2,5 t24 a65 r1,12 p191 w3,85 q1,1 r3,85 t20480 r1,12 r5,1 d1 ",
-        b"as the manual says",
+        "local loopback, \"The channel A receiver serial-data input is ignored\" (004, 4.3.2.1)",
+        "w0,19 w0,135 w1,187 w2,5 t24 a65 r1,12 p191 w3,85 q1,1 r3,85 t20480 r1,12 r5,1 d1 ",
+        "as the manual says",
     );
     example(
         rt,
-        b"local loopback, a break is sent and received, TxDA high (004, 4.3.2.1, 4.3.7.2 and 4.3.9.1)",
-        b"w0,19 w0,135 w1,187 w2,5 t24 w2,96 t3671 r5,1 t1 r5,7 r1,141 d1 w2,80 r5,3 w2,112 t168 \
+        "local loopback, a break is sent and received, TxDA high (004, 4.3.2.1, 4.3.7.2 and 4.3.9.1)",
+        "w0,19 w0,135 w1,187 w2,5 t24 w2,96 t3671 r5,1 t1 r5,7 r1,141 d1 w2,80 r5,3 w2,112 t168 \
         r5,3 t24 r5,7 d1 r3,0 r1,12 w3,85 q1,1 r1,5 r3,85 ",
-        b"as the manual says",
+        "as the manual says",
     );
 }
 
@@ -49,16 +49,16 @@ fn local_line(rt: &impl Print) {
 fn local_enables(rt: &impl Print) {
     example(
         rt,
-        b"local loopback, receiver not enabled (004, 4.3.2.1: \"the receiver need not be enabled\")",
-        b"w0,19 w0,135 w1,187 w2,4 t24 w3,85 t4096 r1,12 r3,0 g0 w2,1 t24 w3,85 t4096 r1,13 r3,85 \
+        "local loopback, receiver not enabled (004, 4.3.2.1: \"the receiver need not be enabled\")",
+        "w0,19 w0,135 w1,187 w2,4 t24 w3,85 t4096 r1,12 r3,0 g0 w2,1 t24 w3,85 t4096 r1,13 r3,85 \
         g1 w2,2 w3,90 t4096 r1,12 r3,85 g0 ",
-        b"document 02 decides: the enable is not in its list of what is other here, so a disabled receiver receives nothing",
+        "document 02 decides: the enable is not in its list of what is other here, so a disabled receiver receives nothing",
     );
     example(
         rt,
-        b"local loopback, CTSA (order 2: \"CTS still counts\"; 004, 4.3.2.3)",
-        b"w0,19 w0,151 w1,187 w2,5 t24 w3,85 t4096 r1,0 p254 t384 r1,4 p255 q1,1 r1,5 r3,85 d1 ",
-        b"as the manual says",
+        "local loopback, CTSA (order 2: \"CTS still counts\"; 004, 4.3.2.3)",
+        "w0,19 w0,151 w1,187 w2,5 t24 w3,85 t4096 r1,0 p254 t384 r1,4 p255 q1,1 r1,5 r3,85 d1 ",
+        "as the manual says",
     );
 }
 
@@ -67,17 +67,17 @@ fn local_enables(rt: &impl Print) {
 fn echo_line(rt: &impl Print) {
     example(
         rt,
-        b"automatic echo, 85 bit by bit: \"reclocked and retransmitted\", by the receive clock (004, 4.3.2.1)",
-        b"w0,19 w0,71 w1,180 w2,1 t48 d1 p191 t23 d1 t1 d0 t360 d0 p255 t384 d1 p191 t384 d0 \
+        "automatic echo, 85 bit by bit: \"reclocked and retransmitted\", by the receive clock (004, 4.3.2.1)",
+        "w0,19 w0,71 w1,180 w2,1 t48 d1 p191 t23 d1 t1 d0 t360 d0 p255 t384 d1 p191 t384 d0 \
         p255 t384 d1 p191 t384 d0 p255 t384 d1 p191 t384 d0 p255 t384 d1 p191 t384 d0 p255 \
         t384 d1 r1,1 r3,85 g1 r1,0 ",
-        b"as the manual says",
+        "as the manual says",
     );
     example(
         rt,
-        b"automatic echo, \"The receiver must be enabled\" (004, 4.3.2.1)",
-        b"w0,19 w0,71 w1,187 w2,1 t48 p191 t24 d0 w2,2 d1 t384 d1 w2,1 d1 t23 d1 t1 d0 w2,33 d1 t24 d0 ",
-        b"as the manual says; document 02 decides: TxD is high while it is disabled",
+        "automatic echo, \"The receiver must be enabled\" (004, 4.3.2.1)",
+        "w0,19 w0,71 w1,187 w2,1 t48 p191 t24 d0 w2,2 d1 t384 d1 w2,1 d1 t23 d1 t1 d0 w2,33 d1 t24 d0 ",
+        "as the manual says; document 02 decides: TxD is high while it is disabled",
     );
 }
 
@@ -85,23 +85,23 @@ fn echo_line(rt: &impl Print) {
 fn echo_errors(rt: &impl Print) {
     example(
         rt,
-        b"automatic echo, \"The received parity is checked, but is not recalculated for transmission\" (004, 4.3.2.1)",
-        b"w0,3 w0,71 w1,187 w2,1 t48 p191 t3456 d0 p255 t384 d1 t384 d1 r1,33 r3,0 g1 ",
-        b"as the manual says",
+        "automatic echo, \"The received parity is checked, but is not recalculated for transmission\" (004, 4.3.2.1)",
+        "w0,3 w0,71 w1,187 w2,1 t48 p191 t3456 d0 p255 t384 d1 t384 d1 r1,33 r3,0 g1 ",
+        "as the manual says",
     );
     example(
         rt,
-        b"automatic echo, \"framing is checked but the stop bits are retransmitted as received\" (004, 4.3.2.1)",
-        b"w0,19 w0,71 w1,187 w2,1 t48 p191 t384 d0 p255 t3072 d1 p191 t384 d0 p255 t384 d1 r1,65 \
+        "automatic echo, \"framing is checked but the stop bits are retransmitted as received\" (004, 4.3.2.1)",
+        "w0,19 w0,71 w1,187 w2,1 t48 p191 t384 d0 p255 t3072 d1 p191 t384 d0 p255 t384 d1 r1,65 \
         r3,255 g1 ",
-        b"as the manual says",
+        "as the manual says",
     );
     example(
         rt,
-        b"automatic echo, \"A received break is echoed as received\" (004, 4.3.2.1)",
-        b"w0,19 w0,71 w1,187 w2,1 t48 p191 t4096 d0 r1,129 r5,6 t15360 d0 p255 t24 d1 t384 r3,0 \
+        "automatic echo, \"A received break is echoed as received\" (004, 4.3.2.1)",
+        "w0,19 w0,71 w1,187 w2,1 t48 p191 t4096 d0 r1,129 r5,6 t15360 d0 p255 t24 d1 t384 r3,0 \
         r1,0 a65 d1 r1,1 r3,65 ",
-        b"as the manual says",
+        "as the manual says",
     );
 }
 
@@ -109,22 +109,22 @@ fn echo_errors(rt: &impl Print) {
 fn echo_transmitter(rt: &impl Print) {
     example(
         rt,
-        b"automatic echo, \"transmitter ready and transmitter empty status bits are inactive\" (004, 4.3.2.1 and 4.3.15.8)",
-        b"w0,19 w0,7 w13,64 w5,1 w2,5 r1,12 r5,1 i1 o191 w0,71 r1,0 r5,0 i0 o255 k6,0 w0,7 r1,12 \
+        "automatic echo, \"transmitter ready and transmitter empty status bits are inactive\" (004, 4.3.2.1 and 4.3.15.8)",
+        "w0,19 w0,7 w13,64 w5,1 w2,5 r1,12 r5,1 i1 o191 w0,71 r1,0 r5,0 i0 o255 k6,0 w0,7 r1,12 \
         r5,1 i1 o191 ",
-        b"as the manual says",
+        "as the manual says",
     );
     example(
         rt,
-        b"automatic echo, a character is written (004, 4.3.2.1: \"the CPU-to-transmitter link is disabled\")",
-        b"w0,19 w0,71 w1,187 w2,5 w3,85 t24 d1 t3816 d1 r1,0 w0,7 d1 r1,0 t24 d0 r1,4 t384 d1 ",
-        b"as the manual says; document 02 decides: the holding place stays, so it is sent in normal mode",
+        "automatic echo, a character is written (004, 4.3.2.1: \"the CPU-to-transmitter link is disabled\")",
+        "w0,19 w0,71 w1,187 w2,5 w3,85 t24 d1 t3816 d1 r1,0 w0,7 d1 r1,0 t24 d0 r1,4 t384 d1 ",
+        "as the manual says; document 02 decides: the holding place stays, so it is sent in normal mode",
     );
     example(
         rt,
-        b"automatic echo, start break (004, 4.3.2.1: \"the CPU-to-transmitter link is disabled\")",
-        b"w0,19 w0,71 w1,187 w2,5 w2,96 t768 d1 w0,7 d1 t24 d0 t7680 d0 ",
-        b"as the manual says; document 02 decides: no break starts, and the one asked for starts in normal mode",
+        "automatic echo, start break (004, 4.3.2.1: \"the CPU-to-transmitter link is disabled\")",
+        "w0,19 w0,71 w1,187 w2,5 w2,96 t768 d1 w0,7 d1 t24 d0 t7680 d0 ",
+        "as the manual says; document 02 decides: no break starts, and the one asked for starts in normal mode",
     );
 }
 
@@ -132,50 +132,50 @@ fn echo_transmitter(rt: &impl Print) {
 fn echo_commands(rt: &impl Print) {
     example(
         rt,
-        b"automatic echo, reset and disable transmitter, stop break (004, 4.3.7.2 and 4.3.7.3)",
-        b"w0,19 w0,71 w1,187 w2,5 t48 p191 t24 d0 w2,48 d1 t23 d1 t1 d0 w2,8 d0 w2,112 d0 t24 d0 ",
-        b"01 decides: a reset has TxD high; at its next pulse the receiver echoes again",
+        "automatic echo, reset and disable transmitter, stop break (004, 4.3.7.2 and 4.3.7.3)",
+        "w0,19 w0,71 w1,187 w2,5 t48 p191 t24 d0 w2,48 d1 t23 d1 t1 d0 w2,8 d0 w2,112 d0 t24 d0 ",
+        "01 decides: a reset has TxD high; at its next pulse the receiver echoes again",
     );
 }
 
 fn remote_line(rt: &impl Print) {
     example(
         rt,
-        b"remote loopback, 85 bit by bit: echoed, \"Received data cannot be read by the local CPU\" (004, 4.3.2.1)",
-        b"w0,19 w0,199 w1,180 w2,1 t48 d1 p191 t23 d1 t1 d0 t360 d0 p255 t384 d1 p191 t384 d0 \
+        "remote loopback, 85 bit by bit: echoed, \"Received data cannot be read by the local CPU\" (004, 4.3.2.1)",
+        "w0,19 w0,199 w1,180 w2,1 t48 d1 p191 t23 d1 t1 d0 t360 d0 p255 t384 d1 p191 t384 d0 \
         p255 t384 d1 p191 t384 d0 p255 t384 d1 p191 t384 d0 p255 t384 d1 p191 t384 d0 p255 \
         t384 d1 r1,0 r5,0 r3,0 g0 ",
-        b"as the manual says",
+        "as the manual says",
     );
     example(
         rt,
-        b"remote loopback, wrong parity bit, low stop bit, break: echoed, not checked (004, 4.3.2.1)",
-        b"w0,3 w0,199 w1,187 w2,1 t48 p191 t3456 d0 p255 t384 d1 p191 t384 d0 p255 t384 d1 r1,0 \
+        "remote loopback, wrong parity bit, low stop bit, break: echoed, not checked (004, 4.3.2.1)",
+        "w0,3 w0,199 w1,187 w2,1 t48 p191 t3456 d0 p255 t384 d1 p191 t384 d0 p255 t384 d1 r1,0 \
         p191 t20480 d0 r1,0 r5,0 p255 t384 d1 r1,0 r5,0 ",
-        b"as the manual says",
+        "as the manual says",
     );
     example(
         rt,
-        b"remote loopback, \"The receiver must be enabled\" (004, 4.3.2.1)",
-        b"w0,19 w0,199 w1,187 w2,1 t48 p191 t24 d0 w2,2 d1 t384 d1 w2,1 d1 t23 d1 t1 d0 w2,33 d1 t24 d0 ",
-        b"as the manual says; document 02 decides: TxD is high while it is disabled",
+        "remote loopback, \"The receiver must be enabled\" (004, 4.3.2.1)",
+        "w0,19 w0,199 w1,187 w2,1 t48 p191 t24 d0 w2,2 d1 t384 d1 w2,1 d1 t23 d1 t1 d0 w2,33 d1 t24 d0 ",
+        "as the manual says; document 02 decides: TxD is high while it is disabled",
     );
 }
 
 fn remote_status(rt: &impl Print) {
     example(
         rt,
-        b"remote loopback, a character held before (004, 4.3.2.1: cannot be read, \"the error status conditions are inactive\")",
-        b"w0,3 w0,7 w1,187 w2,1 t48 a85 t384 r1,33 w0,199 r1,33 a66 t384 r1,33 r3,85 g1 r1,0 \
+        "remote loopback, a character held before (004, 4.3.2.1: cannot be read, \"the error status conditions are inactive\")",
+        "w0,3 w0,7 w1,187 w2,1 t48 a85 t384 r1,33 w0,199 r1,33 a66 t384 r1,33 r3,85 g1 r1,0 \
         r3,85 g0 ",
-        b"document 02 decides: no character is put together, and no more, so it is read, with its mark",
+        "document 02 decides: no character is put together, and no more, so it is read, with its mark",
     );
     example(
         rt,
-        b"remote loopback, TxRDY and TxEMT, and a character is written (004, 4.3.2.1: nothing of them; 3.3.3: link disabled)",
-        b"w0,19 w0,7 w1,187 w2,5 r1,12 r5,1 w0,199 r1,0 r5,0 w3,85 t24 d1 t3816 d1 r1,0 w0,7 d1 \
+        "remote loopback, TxRDY and TxEMT, and a character is written (004, 4.3.2.1: nothing of them; 3.3.3: link disabled)",
+        "w0,19 w0,7 w1,187 w2,5 r1,12 r5,1 w0,199 r1,0 r5,0 w3,85 t24 d1 t3816 d1 r1,0 w0,7 d1 \
         r1,0 t24 d0 r1,4 ",
-        b"document 02 decides: the same echo, so both read 0 and the character is sent in normal mode",
+        "document 02 decides: the same echo, so both read 0 and the character is sent in normal mode",
     );
 }
 
@@ -183,10 +183,10 @@ fn remote_status(rt: &impl Print) {
 fn both_channels(rt: &impl Print) {
     example(
         rt,
-        b"channel B in automatic echo, A in remote loopback (004, 4.3.4: MR2B's bits \"identical to\" MR2A's)",
-        b"w0,19 w0,199 w1,187 w2,1 w8,19 w8,71 w9,187 w10,1 t48 d1 e1 p127 t24 d1 e0 p191 t24 d0 e1 \
+        "channel B in automatic echo, A in remote loopback (004, 4.3.4: MR2B's bits \"identical to\" MR2A's)",
+        "w0,19 w0,199 w1,187 w2,1 w8,19 w8,71 w9,187 w10,1 t48 d1 e1 p127 t24 d1 e0 p191 t24 d0 e1 \
         p255 t24 d1 e1 b65 a66 r9,1 r11,65 g1 r1,0 r3,0 g0 ",
-        b"as the manual says",
+        "as the manual says",
     );
 }
 
@@ -195,24 +195,24 @@ fn both_channels(rt: &impl Print) {
 fn mode_changes(rt: &impl Print) {
     example(
         rt,
-        b"mode change while sending (002, 6.3.3: \"activated immediately upon mode selection\")",
-        b"w0,19 w0,7 w1,187 w2,5 w3,0 t24 d0 w3,85 t384 d0 r1,0 w0,71 d1 r1,0 t3840 d1 w0,7 d1 \
+        "mode change while sending (002, 6.3.3: \"activated immediately upon mode selection\")",
+        "w0,19 w0,7 w1,187 w2,5 w3,0 t24 d0 w3,85 t384 d0 r1,0 w0,71 d1 r1,0 t3840 d1 w0,7 d1 \
         t24 d0 r1,4 t384 d1 t384 d0 t384 d1 t384 d0 t384 d1 t384 d0 t384 d1 t384 d0 t384 d1 \
         t384 d1 r1,12 ",
-        b"as the manual says; document 02 decides: 0 is dropped, and the holding place stays",
+        "as the manual says; document 02 decides: 0 is dropped, and the holding place stays",
     );
     example(
         rt,
-        b"mode change while sending a break (002, 6.3.3: \"activated immediately upon mode selection\")",
-        b"w0,19 w0,7 w1,187 w2,4 w2,96 t24 d0 w3,0 w0,135 d1 w0,7 d1 t24 d0 r1,4 t3432 d0 t24 d1 \
+        "mode change while sending a break (002, 6.3.3: \"activated immediately upon mode selection\")",
+        "w0,19 w0,7 w1,187 w2,4 w2,96 t24 d0 w3,0 w0,135 d1 w0,7 d1 t24 d0 r1,4 t3432 d0 t24 d1 \
         t3840 d1 r1,12 ",
-        b"as the manual says; document 02 decides: the break is dropped, and TxD is high until the next pulse, no longer",
+        "as the manual says; document 02 decides: the break is dropped, and TxD is high until the next pulse, no longer",
     );
     example(
         rt,
-        b"MR2 written while sending, in the same mode (004, 4.3.2)",
-        b"w0,19 w0,7 w1,187 w2,5 w3,0 t24 d0 w0,15 d0 t3432 d0 t24 d1 t3840 r1,12 r0,15 ",
-        b"document 02 decides: no mode change, so the character is sent",
+        "MR2 written while sending, in the same mode (004, 4.3.2)",
+        "w0,19 w0,7 w1,187 w2,5 w3,0 t24 d0 w0,15 d0 t3432 d0 t24 d1 t3840 r1,12 r0,15 ",
+        "document 02 decides: no mode change, so the character is sent",
     );
 }
 
@@ -220,23 +220,23 @@ fn mode_changes(rt: &impl Print) {
 fn mode_changes_received(rt: &impl Print) {
     example(
         rt,
-        b"mode change while receiving (002, 6.3.3: \"activated immediately upon mode selection\")",
-        b"w0,19 w0,7 w1,187 w2,1 t48 a65 r1,1 p191 t1024 w0,71 d1 t24 d0 p255 t4096 d1 r1,1 r3,65 \
+        "mode change while receiving (002, 6.3.3: \"activated immediately upon mode selection\")",
+        "w0,19 w0,7 w1,187 w2,1 t48 a65 r1,1 p191 t1024 w0,71 d1 t24 d0 p255 t4096 d1 r1,1 r3,65 \
         r1,0 a66 r1,1 r3,66 ",
-        b"as the manual says; document 02 decides: what is put together is dropped, and an enabled receiver is as just enabled",
+        "as the manual says; document 02 decides: what is put together is dropped, and an enabled receiver is as just enabled",
     );
     example(
         rt,
-        b"mode change in a received break (002, 6.3.3: \"activated immediately upon mode selection\")",
-        b"w0,19 w0,7 w1,187 w2,1 t48 p191 t4096 r1,129 r5,6 w0,71 r1,129 r5,6 w2,80 r5,2 p255 t384 \
+        "mode change in a received break (002, 6.3.3: \"activated immediately upon mode selection\")",
+        "w0,19 w0,7 w1,187 w2,1 t48 p191 t4096 r1,129 r5,6 w0,71 r1,129 r5,6 w2,80 r5,2 p255 t384 \
         r1,129 r5,2 r3,0 r1,0 a65 r3,65 ",
-        b"as the manual says; document 02 decides: the wait for its end is dropped, and what is held and told stays",
+        "as the manual says; document 02 decides: the wait for its end is dropped, and what is held and told stays",
     );
     example(
         rt,
-        b"mode change from automatic echo to remote loopback (002, 6.3.3: \"activated immediately upon mode selection\")",
-        b"w0,19 w0,71 w1,187 w2,1 t48 p191 t24 d0 w0,199 d1 t23 d1 t1 d0 p255 t3840 d1 r1,0 ",
-        b"as the manual says; document 02 decides: TxD is high until the next pulse",
+        "mode change from automatic echo to remote loopback (002, 6.3.3: \"activated immediately upon mode selection\")",
+        "w0,19 w0,71 w1,187 w2,1 t48 p191 t24 d0 w0,199 d1 t23 d1 t1 d0 p255 t3840 d1 r1,0 ",
+        "as the manual says; document 02 decides: TxD is high until the next pulse",
     );
 }
 

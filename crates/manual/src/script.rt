@@ -1,92 +1,85 @@
 // An example as a script, run on a fresh chip, each of its words printed and compared.
-use crate::bench::{Bench, Stopped, Wish, act, go, start};
+use crate::bench::{
+    Bench, CHARACTER_TURNS, Stopped, act, character_turn, edge, go, is_lost, looped_event,
+    read_turn, start, tick,
+};
 use crate::text::{print, print_verdict};
 use crate::trace::judge;
-use crate::word::{
-    Look, Word, event_of, first_byte, is_event, last_byte, looped_turns, no_word, with_byte,
-};
+use crate::word::{Word, looped_turns, read_word};
+use events::Event;
 
-fn look_at(bench: Bench, turns: u64) -> Look {
-    Look {
-        number: bench.answer.number,
-        byte: bench.answer.byte,
-        fresh: bench.answer.fresh,
-        irq: bench.answer.lines.irq,
-        txda: bench.answer.lines.txda,
-        txdb: bench.answer.lines.txdb,
-        op: bench.answer.lines.op,
-        turns: turns,
-    }
+// The most reads until a bit is set.
+const MOST_READS: u64 = 20001;
+
+fn stop(bench: Bench, turns: u64) -> Stopped {
+    Stopped { bench, turns }
 }
 
-// What comes in over time: ticks, edges, characters, reads until a bit is set, the start-up test.
-fn wish_of(word: Word) -> Wish {
-    let letter = word.letter;
-    match letter {
-        b'c' => Wish::Edges,
-        b'a' => Wish::Character(64, last_byte(word)),
-        b'b' => Wish::Character(128, last_byte(word)),
-        b'q' => Wish::Set(first_byte(word), last_byte(word)),
-        b'l' => Wish::Looped,
-        _ => Wish::Ticks,
-    }
-}
-
-// How long at most: a character is ten bits. A word that looks at a line takes no time.
-fn most_turns(word: Word) -> u64 {
-    let letter = word.letter;
-    match letter {
-        b't' => word.last,
-        b'c' => word.last % 256,
-        b'a' | b'b' => 3840,
-        b'q' => 20001,
-        b'l' => looped_turns(word),
-        _ => 0,
-    }
-}
-
+// A word that looks at a line takes no time.
 fn drive(bench: Bench, word: Word) -> Stopped {
-    if is_event(word.letter) {
-        return Stopped {
-            bench: act(bench, event_of(word)),
-            turns: 1,
-        };
-    }
-    let stopped = go(bench, wish_of(word), most_turns(word));
-    let mut next = stopped.bench;
-    next.wired = next.wired | (word.letter == b'j');
-    Stopped {
-        bench: next,
-        turns: stopped.turns,
+    match word {
+        Word::Access { event, .. } => stop(act(bench, event), 1),
+        Word::Pins(levels) => stop(act(bench, Event::Pins(levels)), 1),
+        Word::Ticks(times) => go(bench, times, |bench, _| tick(bench), |_, _| false),
+        Word::Edges(times) => go(
+            bench,
+            u64::from(times),
+            |bench, _| edge(bench),
+            |_, _| false,
+        ),
+        Word::Character(channel, byte) => go(
+            bench,
+            CHARACTER_TURNS,
+            |bench, turns| character_turn(bench, channel.mask(), byte, turns),
+            |_, _| false,
+        ),
+        Word::Wired => stop(
+            Bench {
+                answer: bench.answer,
+                pins: bench.pins,
+                wired: true,
+            },
+            0,
+        ),
+        Word::Until { register, mask } => go(
+            bench,
+            MOST_READS,
+            |bench, turns| read_turn(bench, register, turns),
+            |answer, turns| turns != 0 && answer.byte & mask != 0,
+        ),
+        Word::Looped(bytes) => go(
+            bench,
+            looped_turns(bytes),
+            |bench, turns| act(bench, looped_event(turns)),
+            |answer, turns| is_lost(answer, turns),
+        ),
+        Word::Level(..) | Word::Outputs(_) => stop(bench, 0),
     }
 }
 
-// Whether every word agrees. A script that ends within a word does not.
-fn run(rt: &impl Print, bench: Bench, script: &[u8]) -> bool {
-    let mut next = bench;
+// Whether every word agrees. What is no word does not.
+fn run(rt: &impl Print, script: &str) -> bool {
+    let mut bench = start();
     let mut same = true;
-    let mut word = no_word();
-    let mut i = 0;
-    while i < script.len() {
-        let c = script[i];
-        i += 1;
-        if c == b' ' {
-            let driven = drive(next, word);
-            next = driven.bench;
-            same = judge(rt, look_at(next, driven.turns), word) & same;
-            word = no_word();
-        } else {
-            word = with_byte(word, c);
+    for text in script.split_ascii_whitespace() {
+        match read_word(text) {
+            Some(word) => {
+                let came = drive(bench, word);
+                bench = came.bench;
+                same &= judge(rt, word, came);
+            }
+            None => {
+                print(rt, format_args!(" {text} is no word,"));
+                same = false;
+            }
         }
     }
-    same & (word.letter == b' ')
+    same
 }
 
 // One example: its name and source, what came, and the verdict.
-pub fn example(rt: &impl Print, name: &[u8], script: &[u8], verdict: &[u8]) {
-    print(rt, name);
-    print(rt, b":");
-    let same = run(rt, start(), script);
-    print(rt, b" ");
+pub fn example(rt: &impl Print, name: &str, script: &str, verdict: &str) {
+    print(rt, format_args!("{name}:"));
+    let same = run(rt, script);
     print_verdict(rt, same, verdict);
 }

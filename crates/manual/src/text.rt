@@ -1,110 +1,86 @@
-// What is printed: words, numbers, the names of the registers.
+// What is printed: numbers with places, the names of the registers, verdicts.
+use std::fmt;
+use std::fmt::Display;
 
-pub fn print(rt: &impl Print, text: &[u8]) {
-    let _ = rt.write_all(text);
+// A write that fails is passed over.
+pub fn print<D: Display + Drop>(rt: &impl Print, text: D) {
+    let _ = rt.print(text);
 }
 
-pub fn print_number(rt: &impl Print, n: u64) {
-    let _ = rt.print(n);
-}
+// Three places: 563 is 0.563.
+#[derive(Clone, Copy)]
+pub struct Thousandths(pub u64);
 
-pub fn print_byte(rt: &impl Print, x: u8) {
-    print_number(rt, x as u64);
-}
-
-// Thousandths with three places: 563 is 0.563.
-pub fn print_thousandths(rt: &impl Print, n: u64) {
-    print_number(rt, n / 1000);
-    print(rt, b".");
-    print_number(rt, n / 100 % 10);
-    print_number(rt, n / 10 % 10);
-    print_number(rt, n % 10);
-}
-
-// Tenths, with a place only where it is not 0: 1345 is 134.5 and 500 is 50.
-pub fn print_tenths(rt: &impl Print, n: u64) {
-    print_number(rt, n / 10);
-    if n % 10 != 0 {
-        print(rt, b".");
-        print_number(rt, n % 10);
+impl Display for Thousandths {
+    fn fmt<W: fmt::Write>(&self, f: &mut fmt::Formatter<W>) -> fmt::Result {
+        write!(f, "{}.{:03}", self.0 / 1000, self.0 % 1000)
     }
 }
 
-// What comes out of a comparison.
-pub fn print_verdict(rt: &impl Print, agrees: bool, verdict: &[u8]) {
-    if agrees {
-        print(rt, verdict);
-    } else {
-        print(rt, b"DIFFERS");
-    }
-    print(rt, b"\n");
-}
+// A place only where it is not 0: 1345 is 134.5 and 500 is 50.
+#[derive(Clone, Copy)]
+pub struct Tenths(pub u64);
 
-// The registers of channel A, and those that both share, as they are read.
-fn print_low_read(rt: &impl Print, register: u8) {
-    match register {
-        0 => print(rt, b"MRA"),
-        1 => print(rt, b"SRA"),
-        3 => print(rt, b"RBA"),
-        4 => print(rt, b"IPCR"),
-        5 => print(rt, b"ISR"),
-        6 => print(rt, b"CUR"),
-        7 => print(rt, b"CLR"),
-        _ => print(rt, b"register 2"),
+impl Display for Tenths {
+    fn fmt<W: fmt::Write>(&self, f: &mut fmt::Formatter<W>) -> fmt::Result {
+        write!(f, "{}", self.0 / 10)?;
+        match self.0 % 10 {
+            0 => Ok(()),
+            tenths => write!(f, ".{tenths}"),
+        }
     }
 }
 
-fn print_high_read(rt: &impl Print, register: u8) {
-    match register {
-        8 => print(rt, b"MRB"),
-        9 => print(rt, b"SRB"),
-        11 => print(rt, b"RBB"),
-        12 => print(rt, b"IVR"),
-        13 => print(rt, b"IP"),
-        14 => print(rt, b"start"),
-        15 => print(rt, b"stop"),
-        _ => print(rt, b"register 10"),
-    }
+// What comes out of a comparison, at the end of its line.
+pub fn print_verdict(rt: &impl Print, agrees: bool, verdict: &str) {
+    let said = if agrees { verdict } else { "DIFFERS" };
+    print(rt, format_args!(" {said}\n"));
 }
 
-pub fn print_read(rt: &impl Print, register: u8) {
-    if register < 8 {
-        print_low_read(rt, register);
-    } else {
-        print_high_read(rt, register);
-    }
+const READ_NAMES: [&str; 16] = [
+    "MRA",
+    "SRA",
+    "register 2",
+    "RBA",
+    "IPCR",
+    "ISR",
+    "CUR",
+    "CLR",
+    "MRB",
+    "SRB",
+    "register 10",
+    "RBB",
+    "IVR",
+    "IP",
+    "start",
+    "stop",
+];
+
+const WRITE_NAMES: [&str; 16] = [
+    "MRA",
+    "CSRA",
+    "CRA",
+    "TBA",
+    "ACR",
+    "IMR",
+    "CTUR",
+    "CTLR",
+    "MRB",
+    "CSRB",
+    "CRB",
+    "TBB",
+    "IVR",
+    "OPCR",
+    "OPR set",
+    "OPR reset",
+];
+
+// A register as it is read.
+pub fn read_name(register: u8) -> &'static str {
+    READ_NAMES[usize::from(register % 16)]
 }
 
-fn print_low_write(rt: &impl Print, register: u8) {
-    match register {
-        0 => print(rt, b"MRA"),
-        1 => print(rt, b"CSRA"),
-        2 => print(rt, b"CRA"),
-        3 => print(rt, b"TBA"),
-        4 => print(rt, b"ACR"),
-        5 => print(rt, b"IMR"),
-        6 => print(rt, b"CTUR"),
-        _ => print(rt, b"CTLR"),
-    }
-}
-
-fn print_high_write(rt: &impl Print, register: u8) {
-    match register {
-        8 => print(rt, b"MRB"),
-        9 => print(rt, b"CSRB"),
-        10 => print(rt, b"CRB"),
-        11 => print(rt, b"TBB"),
-        12 => print(rt, b"IVR"),
-        13 => print(rt, b"OPCR"),
-        14 => print(rt, b"OPR set"),
-        _ => print(rt, b"OPR reset"),
-    }
-}
-
-pub fn print_write(rt: &impl Print, register: u8) {
-    if register < 8 {
-        print_low_write(rt, register);
-    } else {
-        print_high_write(rt, register);
-    }
+// A register as it is written.
+pub fn write_name(register: u8) -> &'static str {
+    WRITE_NAMES[usize::from(register % 16)]
 }

@@ -1,121 +1,85 @@
 // A word printed with what came of it: `:=` a write, `=` a read or a level, `<-` a character coming in.
-use crate::bench::LOOPED_TURNS;
-use crate::text::{print, print_byte, print_number, print_read, print_write};
-use crate::word::{
-    Look, Word, agrees, first_byte, is_access, is_line, is_write, last_byte, wanted_byte,
-    wanted_number,
-};
-
-fn print_level(rt: &impl Print, name: &[u8], level: bool) {
-    print(rt, name);
-    if level {
-        print(rt, b"=1");
-    } else {
-        print(rt, b"=0");
-    }
-}
+use crate::bench::{LOOPED_TURNS, Stopped};
+use crate::text::{print, read_name, write_name};
+use crate::word::{Channel, Word, agrees};
+use chip_step::Answer;
+use events::Event;
 
 fn print_refusal(rt: &impl Print, number: u8) {
     if number != 0 {
-        print(rt, b" refused with ");
-        print_byte(rt, number);
+        print(rt, format_args!(" refused with {number}"));
     }
 }
 
-fn print_access(rt: &impl Print, seen: Look, word: Word) {
-    if is_write(word.letter) {
-        print_write(rt, first_byte(word));
-        print(rt, b":=");
-        print_number(rt, word.last);
-    } else if word.letter == b'z' {
-        print(rt, b"chip reset");
-    } else if word.letter == b'k' {
-        print(rt, b"acknowledge=");
-        print_byte(rt, seen.byte);
-    } else {
-        print_read(rt, first_byte(word));
-        print(rt, b"=");
-        print_byte(rt, seen.byte);
-    }
-    print_refusal(rt, seen.number);
-}
-
-fn print_time(rt: &impl Print, word: Word) {
-    let letter = word.letter;
-    match letter {
-        b'p' => print(rt, b"pins:="),
-        b'a' => print(rt, b"RxDA<-"),
-        b'b' => print(rt, b"RxDB<-"),
-        b'j' => print(rt, b"TxD wired to RxD"),
-        b'c' => print(rt, b"IP3 falls, times "),
-        _ => print(rt, b"ticks "),
-    }
-    if letter != b'j' {
-        print_number(rt, word.last);
-    }
-}
-
-fn print_line(rt: &impl Print, seen: Look, word: Word) {
-    let letter = word.letter;
-    match letter {
-        b'i' => print_level(rt, b"IRQ", seen.irq),
-        b'd' => print_level(rt, b"TxDA", seen.txda),
-        b'e' => print_level(rt, b"TxDB", seen.txdb),
-        b'g' => print_level(rt, b"fresh", seen.fresh),
-        _ => {
-            print(rt, b"OP=");
-            print_byte(rt, seen.op);
+fn print_access(rt: &impl Print, event: Event, answer: Answer) {
+    let byte = answer.byte;
+    match event {
+        Event::Write(register, written) => {
+            print(rt, format_args!("{}:={written}", write_name(register)));
         }
+        Event::Read(register) => print(rt, format_args!("{}={byte}", read_name(register))),
+        Event::Acknowledge => print(rt, format_args!("acknowledge={byte}")),
+        Event::ChipReset => print(rt, "chip reset"),
+        Event::Pins(levels) => print(rt, format_args!("pins:={levels}")),
+        Event::Tick => print(rt, "ticks 1"),
     }
+    print_refusal(rt, answer.number);
 }
 
-fn print_poll(rt: &impl Print, seen: Look, word: Word) {
-    print(rt, b"until ");
-    print_read(rt, first_byte(word));
-    print(rt, b"&");
-    print_number(rt, word.last);
-    print_level(rt, b"", seen.byte & last_byte(word) != 0);
-}
-
-fn print_looped(rt: &impl Print, seen: Look) {
-    print_number(rt, seen.turns / LOOPED_TURNS);
-    print(rt, b" bytes looped");
-}
-
-fn print_seen(rt: &impl Print, seen: Look, word: Word) {
-    print(rt, b" ");
-    if is_access(word.letter) {
-        print_access(rt, seen, word);
-    } else if is_line(word.letter) {
-        print_line(rt, seen, word);
-    } else if word.letter == b'q' {
-        print_poll(rt, seen, word);
-    } else if word.letter == b'l' {
-        print_looped(rt, seen);
-    } else {
-        print_time(rt, word);
+fn print_came(rt: &impl Print, word: Word, came: Stopped) {
+    let answer = came.bench.answer;
+    match word {
+        Word::Access { event, .. } => print_access(rt, event, answer),
+        Word::Pins(levels) => print(rt, format_args!("pins:={levels}")),
+        Word::Ticks(times) => print(rt, format_args!("ticks {times}")),
+        Word::Edges(times) => print(rt, format_args!("IP3 falls, times {times}")),
+        Word::Character(Channel::A, byte) => print(rt, format_args!("RxDA<-{byte}")),
+        Word::Character(Channel::B, byte) => print(rt, format_args!("RxDB<-{byte}")),
+        Word::Wired => print(rt, "TxD wired to RxD"),
+        Word::Until { register, mask } => {
+            let is_set = u8::from(answer.byte & mask != 0);
+            print(
+                rt,
+                format_args!("until {}&{mask}={is_set}", read_name(register)),
+            );
+        }
+        Word::Looped(_) => print(
+            rt,
+            format_args!("{} bytes looped", came.turns / LOOPED_TURNS),
+        ),
+        Word::Level(signal, _) => {
+            let level = u8::from(signal.level(answer));
+            print(rt, format_args!("{}={level}", signal.name()));
+        }
+        Word::Outputs(_) => print(rt, format_args!("OP={}", answer.lines.op)),
     }
 }
 
 fn print_wanted(rt: &impl Print, word: Word) {
-    print(rt, b" DIFFERS from ");
-    if is_access(word.letter) {
-        print_byte(rt, wanted_byte(word));
-        print_refusal(rt, wanted_number(word));
-    } else if word.letter == b'q' {
-        print(rt, b"1");
-    } else {
-        print_number(rt, word.last);
+    print(rt, " DIFFERS from ");
+    match word {
+        Word::Access { number, byte, .. } => {
+            print(rt, byte);
+            print_refusal(rt, number);
+        }
+        Word::Level(_, level) => print(rt, u8::from(level)),
+        Word::Pins(number) | Word::Outputs(number) => print(rt, number),
+        Word::Edges(number) | Word::Character(_, number) => print(rt, number),
+        Word::Ticks(times) => print(rt, times),
+        Word::Looped(bytes) => print(rt, bytes),
+        Word::Wired => print(rt, 0u8),
+        Word::Until { .. } => print(rt, 1u8),
     }
 }
 
 // Prints the word with what came, and what should have come where that is not it.
-pub fn judge(rt: &impl Print, seen: Look, word: Word) -> bool {
-    print_seen(rt, seen, word);
-    let same = agrees(seen, word);
+pub fn judge(rt: &impl Print, word: Word, came: Stopped) -> bool {
+    print(rt, " ");
+    print_came(rt, word, came);
+    let same = agrees(word, came);
     if !same {
         print_wanted(rt, word);
     }
-    print(rt, b",");
+    print(rt, ",");
     same
 }

@@ -17,164 +17,135 @@
 //   i, d, e level      IRQ, TxDA, TxDB has this level
 //   o levels           OP0-OP7 have these levels
 //   g level            what was answered last said fresh, 1, or stale, 0 (order 1)
-use crate::bench::LOOPED_TURNS;
+use crate::bench::{LOOPED_TURNS, Stopped};
+use chip_step::Answer;
 use events::Event;
 
 #[derive(Clone, Copy)]
-pub struct Word {
-    pub letter: u8,
-    // the number before a comma
-    pub first: u64,
-    // the number last read
-    pub last: u64,
+pub enum Word {
+    // an event of the processor, and what it should be answered with: the byte is 0 where none is read
+    Access { event: Event, number: u8, byte: u8 },
+    Pins(u8),
+    Ticks(u64),
+    // falling edges of IP3
+    Edges(u8),
+    Character(Channel, u8),
+    Wired,
+    Until { register: u8, mask: u8 },
+    // the bytes
+    Looped(u16),
+    Level(Signal, bool),
+    Outputs(u8),
 }
 
-// What the chip answers, as far as it can be seen.
 #[derive(Clone, Copy)]
-pub struct Look {
-    pub number: u8,
-    pub byte: u8,
-    pub fresh: bool,
-    pub irq: bool,
-    pub txda: bool,
-    pub txdb: bool,
-    pub op: u8,
-    // how many turns the word took
-    pub turns: u64,
+pub enum Channel {
+    A,
+    B,
 }
 
-pub fn no_word() -> Word {
-    Word {
-        letter: b' ',
-        first: 0,
-        last: 0,
+impl Channel {
+    // RxD's bit among the pins.
+    pub fn mask(self) -> u8 {
+        match self {
+            Channel::A => 64,
+            Channel::B => 128,
+        }
     }
 }
 
-// The word with one more of its bytes, which is no space.
-pub fn with_byte(word: Word, c: u8) -> Word {
-    if c == b',' {
-        return Word {
-            letter: word.letter,
-            first: word.last,
-            last: 0,
-        };
+#[derive(Clone, Copy)]
+pub enum Signal {
+    Irq,
+    TxdA,
+    TxdB,
+    Fresh,
+}
+
+impl Signal {
+    pub fn name(self) -> &'static str {
+        match self {
+            Signal::Irq => "IRQ",
+            Signal::TxdA => "TxDA",
+            Signal::TxdB => "TxDB",
+            Signal::Fresh => "fresh",
+        }
     }
-    if c < b'a' {
-        return Word {
-            letter: word.letter,
-            first: word.first,
-            last: (word.last % 65536 * 10 + c as u64 % 16) % 65536,
-        };
-    }
-    Word {
-        letter: c,
-        first: 0,
-        last: 0,
+
+    pub fn level(self, answer: Answer) -> bool {
+        match self {
+            Signal::Irq => answer.lines.irq,
+            Signal::TxdA => answer.lines.txda,
+            Signal::TxdB => answer.lines.txdb,
+            Signal::Fresh => answer.fresh,
+        }
     }
 }
 
-pub fn first_byte(word: Word) -> u8 {
-    (word.first % 256) as u8
+fn access(event: Event, number: u8, byte: u8) -> Option<Word> {
+    Some(Word::Access {
+        event,
+        number,
+        byte,
+    })
 }
 
-pub fn last_byte(word: Word) -> u8 {
-    (word.last % 256) as u8
-}
-
-pub fn is_read(letter: u8) -> bool {
-    (letter == b'r') | (letter == b'x')
-}
-
-pub fn is_write(letter: u8) -> bool {
-    (letter == b'w') | (letter == b'n') | (letter == b'f')
-}
-
-// An event of the processor: read, write, acknowledge or reset.
-pub fn is_access(letter: u8) -> bool {
-    is_read(letter) | is_write(letter) | (letter == b'k') | (letter == b'z')
-}
-
-// What is one event: an access, or the pins.
-pub fn is_event(letter: u8) -> bool {
-    is_access(letter) | (letter == b'p')
-}
-
-pub fn is_line(letter: u8) -> bool {
-    (letter == b'i') | (letter == b'd') | (letter == b'e') | (letter == b'o') | (letter == b'g')
-}
-
-pub fn event_of(word: Word) -> Event {
-    if is_read(word.letter) {
-        return Event::Read(first_byte(word));
-    }
-    if word.letter == b'k' {
-        return Event::Acknowledge;
-    }
-    if word.letter == b'z' {
-        return Event::ChipReset;
-    }
-    if word.letter == b'p' {
-        return Event::Pins(last_byte(word));
-    }
-    Event::Write(first_byte(word), last_byte(word))
-}
-
-// The number that an access should be answered with.
-pub fn wanted_number(word: Word) -> u8 {
-    let letter = word.letter;
+// The word of a letter and its numbers, if it is one.
+fn word_of(letter: char, first: u8, last: u16) -> Option<Word> {
+    let byte = (last % 256) as u8;
     match letter {
-        b'x' => last_byte(word),
-        b'n' => 5,
-        b'f' => 4,
-        b'k' => first_byte(word),
-        _ => 0,
+        'w' => access(Event::Write(first, byte), 0, 0),
+        'r' => access(Event::Read(first), 0, byte),
+        'x' => access(Event::Read(first), byte, 0),
+        'n' => access(Event::Write(first, byte), 5, 0),
+        'f' => access(Event::Write(first, byte), 4, 0),
+        'k' => access(Event::Acknowledge, first, byte),
+        'z' => access(Event::ChipReset, 0, 0),
+        't' => Some(Word::Ticks(u64::from(last))),
+        'p' => Some(Word::Pins(byte)),
+        'a' => Some(Word::Character(Channel::A, byte)),
+        'b' => Some(Word::Character(Channel::B, byte)),
+        'c' => Some(Word::Edges(byte)),
+        'j' => Some(Word::Wired),
+        'q' => Some(Word::Until {
+            register: first,
+            mask: byte,
+        }),
+        'l' => Some(Word::Looped(last)),
+        'i' => Some(Word::Level(Signal::Irq, last == 1)),
+        'd' => Some(Word::Level(Signal::TxdA, last == 1)),
+        'e' => Some(Word::Level(Signal::TxdB, last == 1)),
+        'g' => Some(Word::Level(Signal::Fresh, last == 1)),
+        'o' => Some(Word::Outputs(byte)),
+        _ => None,
     }
 }
 
-// The byte that it should be answered with: 0 where none is read.
-pub fn wanted_byte(word: Word) -> u8 {
-    if (word.letter == b'r') | (word.letter == b'k') {
-        return last_byte(word);
-    }
-    0
-}
-
-fn line_agrees(seen: Look, word: Word) -> bool {
-    let letter = word.letter;
-    match letter {
-        b'i' => seen.irq == (word.last == 1),
-        b'd' => seen.txda == (word.last == 1),
-        b'e' => seen.txdb == (word.last == 1),
-        b'g' => seen.fresh == (word.last == 1),
-        _ => seen.op == last_byte(word),
-    }
+// Where no number stands it is 0.
+pub fn read_word(text: &str) -> Option<Word> {
+    let mut letters = text.chars();
+    let letter = letters.next()?;
+    let numbers = letters.as_str();
+    let (first, last) = numbers.split_once(',').unwrap_or(("", numbers));
+    let first = first.parse().unwrap_or(0);
+    let last = last.parse().unwrap_or(0);
+    word_of(letter, first, last)
 }
 
 // The turns of a start-up test in which no byte is lost.
-pub fn looped_turns(word: Word) -> u64 {
-    word.last % 65536 * LOOPED_TURNS
+pub fn looped_turns(bytes: u16) -> u64 {
+    u64::from(bytes) * LOOPED_TURNS
 }
 
-// Time and pins are accepted; a letter that is no word's never agrees.
-fn time_agrees(seen: Look, letter: u8) -> bool {
-    let known = (letter == b't') | (letter == b'p') | (letter == b'c') | (letter == b'j');
-    (known | (letter == b'a') | (letter == b'b')) & (seen.number == 0)
-}
-
-// Whether what came is what the word says.
-pub fn agrees(seen: Look, word: Word) -> bool {
-    if is_access(word.letter) {
-        return (seen.number == wanted_number(word)) & (seen.byte == wanted_byte(word));
+// Whether what came is what the word says. Time and pins are accepted.
+pub fn agrees(word: Word, came: Stopped) -> bool {
+    let answer = came.bench.answer;
+    match word {
+        Word::Access { number, byte, .. } => answer.number == number && answer.byte == byte,
+        Word::Until { mask, .. } => answer.number == 0 && answer.byte & mask != 0,
+        Word::Looped(bytes) => answer.number == 0 && came.turns == looped_turns(bytes),
+        Word::Level(signal, level) => signal.level(answer) == level,
+        Word::Outputs(levels) => answer.lines.op == levels,
+        _ => answer.number == 0,
     }
-    if is_line(word.letter) {
-        return line_agrees(seen, word);
-    }
-    if word.letter == b'q' {
-        return (seen.number == 0) & (seen.byte & last_byte(word) != 0);
-    }
-    if word.letter == b'l' {
-        return (seen.number == 0) & (seen.turns == looped_turns(word));
-    }
-    time_agrees(seen, word.letter)
 }

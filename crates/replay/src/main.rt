@@ -25,6 +25,7 @@ fn print_answer(rt: &impl Print, answer: Answer) -> Device {
     answer.state
 }
 
+// Kept: `dump` has it too; shared, it would be a public function that promises nothing: `Print` tells no bytes.
 fn print_error(rt: &impl Print, line: u64) {
     let mut space = [0u8; 32];
     let _ = rt.write_all(write_error(line, &mut space));
@@ -45,25 +46,20 @@ fn act(rt: &impl Print, device: Device, said: Line, line: u64) -> Device {
 
 fn end_line(rt: &impl Print, run: Run) -> Run {
     let place = run.place;
-    let reading = place.reading;
-    let said = tell(reading);
-    let device = act(rt, run.device, said, place.line);
-    let next = next_line(place);
+    let said = tell(place.reading);
     Run {
-        device: device,
-        place: next,
+        device: act(rt, run.device, said, place.line),
+        place: next_line(place),
     }
 }
 
 fn take_byte(rt: &impl Print, run: Run, byte: u8) -> Run {
-    if byte == b'\n' {
-        return end_line(rt, run);
-    }
-    let device = run.device;
-    let place = next_place(run.place, byte);
-    Run {
-        device: device,
-        place: place,
+    match byte {
+        b'\n' => end_line(rt, run),
+        _ => Run {
+            device: run.device,
+            place: next_place(run.place, byte),
+        },
     }
 }
 
