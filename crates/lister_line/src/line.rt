@@ -1,13 +1,13 @@
 // The line of one byte.
 ghost use Rattle.std.specs.Prelude.{◌≡◌, length};
-ghost use Rattle.format.specs.Digits.{digit_of};
 ghost use Rattle.lister_line.specs.Line.{written, prepared_device, listed_of};
 
 use chip_device::{Device, fresh};
-use chip_step::{Answer, step};
+use chip_step::step;
 use chip_ticks::tick_times;
 use events::Event;
 use format::Ticks;
+use text::level_digit;
 
 // What a byte brings: "one line of ten mid-bit levels per byte", and the state that the next byte finds.
 #[derive(Clone, Copy)]
@@ -19,8 +19,7 @@ pub struct Listed {
 fn write(device: Device, register: u8, byte: u8) -> Device
     ensures { result ≡ written register byte device }
 {
-    let answer = step(device, Event::Write(register, byte));
-    answer.state
+    step(device, Event::Write(register, byte)).state
 }
 
 // Case 4 before its byte: "MR1 19, MR2 7", "at code 11"; and the transmitter enabled.
@@ -33,16 +32,6 @@ pub fn prepared() -> Device
     write(third, 2, 4)
 }
 
-// TxDA of an answer, as text.
-fn level_text(answer: Answer) -> u8
-    ensures { result ≡ digit_of answer.lines.txda }
-{
-    if answer.lines.txda {
-        return 49;
-    }
-    48
-}
-
 // The byte is written, and 3,840 ticks follow, 384 a bit. With the 24th the start bit begins, so that the 216th of each
 // 384 is the middle of a bit.
 pub fn list_byte(device: Device, byte: u8) -> Listed
@@ -50,17 +39,14 @@ pub fn list_byte(device: Device, byte: u8) -> Listed
     ensures value_2 { 11 ≡ length result.line }
 {
     let mut last = step(device, Event::Write(3, byte));
-    let mut line = [10u8; 11];
-    let mut at = 0usize;
-    while at < 10 {
+    let mut line = [b'\n'; 11];
+    for level in &mut line[..10] {
         let middle = tick_times(last, Ticks(216));
-        line[at] = level_text(middle);
+        *level = level_digit(middle.lines.txda);
         last = tick_times(middle, Ticks(168));
-        at += 1;
     }
-    let state = last.state;
     Listed {
-        line: line,
-        state: state,
+        line,
+        state: last.state,
     }
 }

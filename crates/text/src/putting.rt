@@ -32,6 +32,7 @@ pub fn level_digit(level: bool) -> u8
 }
 
 // A number in decimal that has at most so many places.
+// Kept: a recursion, not the kit's `itoa`: the edit `digits_by_nines` takes the last digit by 9, and places cut the text.
 pub fn put_decimal(number: u64, places: usize, at: usize, space: &mut [u8]) -> usize
     requires { at + places < 2 ^ 64 }
     ensures { Puts at (decimal_of places number) space.old space.new result }

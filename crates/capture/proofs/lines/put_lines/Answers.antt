@@ -1,32 +1,36 @@
 -- `put_lines` meets its contract. The invariant of its loop: the lines of what is left of the log lead to the end that is
 -- asked. Assumes nothing.
-use Prim.Native.Nat.{◌+◌}
-use mathlib.Core.Path.{refl, ◌∙◌}
+use Prim.Native.Nat.{ℕ, ◌+◌, ◌*◌, ◌/◌}
+use mathlib.Core.Path.{◌≡◌}
+use mathlib.Core.List.{List, []}
 use native.Mathlib.Omega.{arith}
-use lib.ListN.{get_or}
-use Rattle.text.proofs.Laws.Puts.{left_all, left_as, left_then, left_none, puts_length}
+use lib.ListN.{length, get_or}
+use Rattle.text.proofs.Laws.Chunks.{piece_byte}
+use Rattle.text.proofs.Laws.Puts.{left_all, left_as, left_then, left_none}
 use Rattle.capture.proofs.Laws.{lines_next, lines_end, line_within}
 use Rattle.capture.proofs.lines.put_lines.Goals as goal
 
-pub loop-i-init : goal.loop-i-init
-loop-i-init c = (omega arith, omega arith, refl, left_all _ _ _)
+pub loop-data-init : goal.loop-data-init
+loop-data-init c = (omega arith, left_all _ _ _)
 
-pub loop-i-preserved : goal.loop-i-preserved
-loop-i-preserved c =
+pub loop-data-preserved : goal.loop-data-preserved
+loop-data-preserved c =
     let a = c.args in
-    let p = c.put_line-next.ensures in
-    let next = lines_next a.letter a.log.now c.loop-i.i (omega arith) in
-    let w = line_within a.letter (get_or a.log.now c.loop-i.i 0) (get_or a.log.now (c.loop-i.i + 1) 0) in (
-      omega arith,
-      omega (arith, p.ends),
-      puts_length p ∙ c.loop-i.invariant.2,
-      left_then (left_as next c.loop-i.invariant.3) p,
-    )
-
-pub shape_of-space : goal.shape_of-space
-shape_of-space c = c.loop-i.invariant.2
+    let i = c.loop-data.data-index in
+    let log : List ℕ = a.log.now in
+    let pieces : List (List ℕ) = c.as_chunks.result.0.now in
+    let first : get_or (get_or pieces i []) 0 0 ≡ get_or log (2 * i) 0 =
+    let e : 2 * i + 0 ≡ 2 * i = omega arith in
+    rw (c.as_chunks.ensures.front, piece_byte 2 (length log / 2) i 0 log (omega arith) (omega arith), e) in
+    let second : get_or (get_or pieces i []) 1 0 ≡ get_or log (2 * i + 1) 0 =
+    rw c.as_chunks.ensures.front (piece_byte 2 (length log / 2) i 1 log (omega arith) (omega arith)) in
+    let p = rw (first, second) at c.put_line-next.ensures in
+    let then : 2 * i + 2 ≡ 2 * (i + 1) = omega arith in
+    let next = rw then at (lines_next a.letter log (2 * i) (omega arith)) in
+    let w = line_within a.letter (get_or log (2 * i) 0) (get_or log (2 * i + 1) 0) in
+    (omega (arith, p.ends), left_then (left_as next c.loop-data.invariant.1) p)
 
 pub returns : goal.returns
 returns c =
     let a = c.args in
-    left_none (left_as (lines_end a.letter a.log.now c.loop-i.i (omega arith)) c.loop-i.invariant.3)
+    left_none (left_as (lines_end a.letter a.log.now (2 * c.loop-data.data-index) (omega arith)) c.loop-data.invariant.1)
