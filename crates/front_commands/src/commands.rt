@@ -1,6 +1,6 @@
 // "Command: bit 7 ignored; bits 6-4 first, then 3-2 (01 enable, 10 disable transmitter), then 1-0
 // (receiver)."
-ghost use Rattle.std.specs.Prelude.{◌≡◌};
+ghost use Rattle.std.specs.Prelude.{◌≡◌, ◌&&◌, not, eqb};
 ghost use Rattle.front_commands.specs.Commands.{bits_of, effect_bits, transmitter_effect, transmitter_enabling};
 ghost use Rattle.front_commands.specs.Commands.{receiver_effect, receiver_enabling, enabled_then, enabled_after};
 ghost use Rattle.front_commands.specs.Commands.{echo_after, side_commanded, command_feed};
@@ -84,6 +84,13 @@ fn receiver_enabling(enabled: bool, bits: u8) -> Enabling
     }
 }
 
+// The pointer after bits 6-4: "1 pointer to MR1".
+fn moved_then(moved: bool, order: Order) -> bool
+    ensures { result ≡ (moved && not (eqb (bits_of order) 1)) }
+{
+    moved & (order != Order::PointAtMr1)
+}
+
 // The receiver's enable after bits 6-4: "2 reset receiver (disabled; .. overrun mark stays)".
 fn enabled_then(enabled: bool, order: Order) -> bool
     ensures { result ≡ enabled_then enabled (bits_of order) }
@@ -108,7 +115,7 @@ fn echo_after(enabled: bool, echo: bool, order: Order, bits: u8) -> bool
     !enabled | echo | reset | (bits == 2)
 }
 
-// The side: "1 pointer to MR1".
+// The side.
 pub fn command_side(side: Side, byte: u8) -> Side
     ensures { result ≡ side_commanded side byte }
 {
@@ -120,7 +127,7 @@ pub fn command_side(side: Side, byte: u8) -> Side
     let enabled = enabled_after(enabled_then(side.enabled, order), byte % 4);
     let echo = echo_after(side.enabled, side.echo, order, byte % 4);
     let mut s = side;
-    s.moved = side.moved & (order != Order::PointAtMr1);
+    s.moved = moved_then(side.moved, order);
     s.enabled = enabled;
     s.echo = echo;
     s.transmitter = transmitter;

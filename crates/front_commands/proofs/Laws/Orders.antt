@@ -1,37 +1,12 @@
--- What bits 6-4 ask for is told by its bits. Assumes nothing.
+-- The orders that ask nothing of the transmitter, or of the receiver. Assumes nothing.
 use mathlib.Core.Path.{◌≡◌, refl}
-use lib.Dec.{eqb}
-use denote.Enum.Bare.{sameb}
 use Rattle.format.specs.Pick.{pick}
 use Rattle.feed.specs.declared.feed.Effect.TheVariants.{NoEffect}
 use Rattle.transmitter.specs.declared.transmitter.Input.TheVariants as Inputs
 use Rattle.front_commands.specs.declared.commands.Order.{Order}
 use Rattle.front_commands.specs.declared.commands.Order.TheVariants.{Nothing, PointAtMr1, ResetReceiver, ResetTransmitter}
 use Rattle.front_commands.specs.declared.commands.Order.TheVariants.{ClearErrors, ClearBreakChange, StartBreak, StopBreak}
-use Rattle.front_commands.specs.contracts.commands.Order.{the_type}
 use Rattle.front_commands.specs.Commands.{bits_of, transmitter_effect, receiver_effect}
-
-pub points : (o : Order) → sameb the_type o PointAtMr1 ≡ eqb (bits_of o) 1
-points Nothing = refl
-points PointAtMr1 = refl
-points ResetReceiver = refl
-points ResetTransmitter = refl
-points ClearErrors = refl
-points ClearBreakChange = refl
-points StartBreak = refl
-points StopBreak = refl
-
-pub resets_receiver : (o : Order) → sameb the_type o ResetReceiver ≡ eqb (bits_of o) 2
-resets_receiver Nothing = refl
-resets_receiver PointAtMr1 = refl
-resets_receiver ResetReceiver = refl
-resets_receiver ResetTransmitter = refl
-resets_receiver ClearErrors = refl
-resets_receiver ClearBreakChange = refl
-resets_receiver StartBreak = refl
-resets_receiver StopBreak = refl
-
--- ---- the orders that are no one's ----
 
 pub no_transmitters : (o : Order) → (o ≡ ResetTransmitter → ⊥) → (o ≡ StartBreak → ⊥) → (o ≡ StopBreak → ⊥) → Inputs.Nothing ≡ transmitter_effect (bits_of o)
 unfolding transmitter_effect pick

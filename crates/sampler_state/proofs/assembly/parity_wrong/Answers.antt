@@ -14,9 +14,6 @@ differs true false = refl
 differs false true = refl
 differs false false = refl
 
-pub nonzero_div-result : goal.nonzero_div-result
-nonzero_div-result c = rw c.data_weight.ensures (pow_pos _)
-
 pub returns-then-has_parity : goal.returns-then-has_parity
 unfolding parity_wrong_of
 returns-then-has_parity c = simp (differs, ← c.data_weight.ensures, c.parity_bit-right.ensures, c.data_of.ensures, ← c.has_parity.ensures) (search steps)
