@@ -1,7 +1,5 @@
 -- `data_of` meets its contract: a remainder by at most 256 is a byte. Assumes nothing.
 use native.Mathlib.Omega.{arith}
-use lib.Pow.{pow_pos}
-use Rattle.sampler_state.specs.Assembly.{data_width_of}
 use Rattle.sampler_state.proofs.Laws.Assembly.{data_small}
 use Rattle.sampler_state.proofs.assembly.data_of.Goals as goal
 

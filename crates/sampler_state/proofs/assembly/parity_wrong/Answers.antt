@@ -1,7 +1,6 @@
--- `parity_wrong` meets its contract: each way through the tests is the definition's; a power of two is no zero to divide by. Assumes nothing.
+-- `parity_wrong` meets its contract: a level differs from the right one where the definition says so. Assumes nothing.
 use mathlib.Core.Path.{◌≡◌, refl}
 use mathlib.Core.Bool.{Bool, true, false, not, beq}
-use lib.Pow.{pow_pos}
 use Rattle.format.specs.Pick.{pick}
 use Rattle.format.proofs.Laws.{steps}
 use Rattle.sampler_state.specs.Assembly.{parity_wrong_of}
