@@ -27,7 +27,7 @@ fn setting_in_range(setting: Setting) -> bool
     ensures { result ≡ setting_in_range setting }
 {
     let width = setting.format.width.0;
-    5 <= width && width <= 8 && setting.format.parity <= 2
+    (5..=8).contains(&width) && setting.format.parity <= 2
 }
 
 fn sampler_in_range(sampler: Sampler) -> bool

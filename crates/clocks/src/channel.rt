@@ -7,6 +7,7 @@ use dividers::{Divided, FAR_OFF, divide, divide_by_16, period_of, room};
 use format::{Pulses, Ticks};
 
 // "13: the timer's toggle to high"
+// Kept: codes are numbers, for `is_sixteen`, `side_room` and `pass_side`, which docs/ list, take them.
 const TIMER_TOGGLE: u8 = 13;
 
 // "14 (16X), 15 (1X)": a pin

@@ -75,6 +75,7 @@ pub fn hand_nothing(front: Front) -> Handed
     }
 }
 
+// Kept: two routines, of `front.a` and of `front.b`, which are two fields, for `Front` crosses to C.
 pub fn hand_a(front: Front, handed: SideHanded) -> Handed
     ensures { result ≡ handed_a front handed }
 {

@@ -1,4 +1,4 @@
 -- The laws of the commands. Assumes nothing.
 pub mod Numbers
-pub mod Orders
+pub mod Actions
 pub mod Ranges

@@ -13,9 +13,9 @@ use Rattle.transmitter.specs.declared.transmitter.Input.TheVariants as Transmitt
 use Rattle.transmitter.specs.Transmitter.{after_input}
 use Rattle.front_side.specs.declared.side.Side.{Side}
 use Rattle.front_side.specs.Side.{with_enabled, with_transmitter, with_echo, pointed_at}
-use Rattle.front_commands.specs.declared.commands.Order.{Order}
-use Rattle.front_commands.specs.declared.commands.Order.TheVariants.{Nothing, PointAtMr1, ResetReceiver, ResetTransmitter}
-use Rattle.front_commands.specs.declared.commands.Order.TheVariants.{ClearErrors, ClearBreakChange, StartBreak, StopBreak}
+use Rattle.front_commands.specs.declared.commands.Action.{Action}
+use Rattle.front_commands.specs.declared.commands.Action.TheVariants.{Nothing, PointAtMr1, ResetReceiver, ResetTransmitter}
+use Rattle.front_commands.specs.declared.commands.Action.TheVariants.{ClearErrors, ClearBreakChange, StartBreak, StopBreak}
 
 -- ---- bits 6-4 ----
 
@@ -23,7 +23,7 @@ abbrev pub effect_bits : ℕ → ℕ
 effect_bits byte = byte / 16 % 8
 
 -- the bits that stand for what they ask for
-abbrev pub bits_of : Order → ℕ
+abbrev pub bits_of : Action → ℕ
 bits_of Nothing = 0
 bits_of PointAtMr1 = 1
 bits_of ResetReceiver = 2

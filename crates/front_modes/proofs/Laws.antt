@@ -1,3 +1,2 @@
 -- The laws of a channel's modes. Assumes nothing.
-pub mod Modes
 pub mod Ranges

@@ -47,9 +47,9 @@ pub fn echoes(mr2: u8) -> bool
     matches!(channel_mode(mr2), ChannelMode::Echo | ChannelMode::Remote)
 }
 
-// What the pin TxD shows, and here alone, of MR2, the receiver's enable, the echoed level and the transmitter's: "TxD stays
-// high"; "at each pulse of an enabled receiver TxD takes the sampled level (high while disabled)"; in normal mode the
-// transmitter's level.
+// What the pin TxD shows, and here alone, of MR2, the receiver's enable, the echoed level and the transmitter's:
+// "TxD stays high"; "at each pulse of an enabled receiver TxD takes the sampled level (high while disabled)"; in
+// normal mode the transmitter's level.
 // Kept: the four are passed one by one for speed, for a side that is passed whole is copied.
 pub fn show_txd(mr2: u8, enabled: bool, echo: bool, level: bool) -> bool
     ensures { result ≡ txd_shown mr2 enabled echo level }

@@ -27,6 +27,7 @@ pub struct ChannelPins {
 }
 
 // An edge of a pin, from the levels before an event and after it.
+// Kept: two bytes, and no struct of both: `rises`, `pins_of_a` and `pins_of_b`, which docs/ list, take them so.
 pub fn rises(before: u8, after: u8, pin: u8) -> bool
     ensures { result ≡ rises_of before after pin }
 {

@@ -7,6 +7,7 @@ ghost use Rattle.queue.specs.Queue.{took_of, replaced_of};
 use character::{Character, no_character};
 
 // Those held, the oldest first: `count` of them, from 0 to 4. The fourth is the one that waits.
+// Kept: a count beside four places, for `Queue` stands inside `Device` and crosses to C.
 #[repr(C)]
 #[derive(Clone, Copy)]
 pub struct Queue {

@@ -80,17 +80,11 @@ fn assemble(sampler: Sampler, level: bool) -> Sampled
 pub fn sample(sampler: Sampler, level: bool, setting: Setting) -> Sampled
     ensures { result ≡ sample_of sampler level setting }
 {
-    if sampler.phase == STARTING {
-        return look_again(sampler, level);
+    match sampler.phase {
+        STARTING => look_again(sampler, level),
+        ASSEMBLING => assemble(sampler, level),
+        AFTER_LOW_STOP => follow_low_stop(sampler, level, setting),
+        IN_BREAK => wait_for_end(sampler, level, setting),
+        _ => hunt(sampler, level, setting),
     }
-    if sampler.phase == ASSEMBLING {
-        return assemble(sampler, level);
-    }
-    if sampler.phase == AFTER_LOW_STOP {
-        return follow_low_stop(sampler, level, setting);
-    }
-    if sampler.phase == IN_BREAK {
-        return wait_for_end(sampler, level, setting);
-    }
-    hunt(sampler, level, setting)
 }

@@ -6,6 +6,7 @@ use feed::Setting;
 use format::{Bits, Pulses};
 
 // What the sampler is doing, its `phase`. Any other number hunts.
+// Kept: numbers, for `Sampler`, which has one, stands inside `Device` and crosses to C.
 pub const HUNTING: u8 = 0;
 
 // a low was seen at p and is looked at again at p+8

@@ -20,6 +20,7 @@ pub struct Shifter {
 }
 
 // What the transmitter is doing, its `phase`. Any other number is idle.
+// Kept: numbers, for `Transmitter`, which has one, stands inside `Device` and crosses to C.
 pub const IDLE: u8 = 0;
 
 // the shifter holds a character

@@ -4,4 +4,4 @@ use Rattle.front_commands.proofs.commands.command_feed.Goals as goal
 
 pub returns : goal.returns
 unfolding command_feed
-returns c = simp (c.receiver_effect.ensures, c.receiver_enabling-enabling.ensures, c.enabled_then.ensures, c.order_of-order.ensures)
+returns c = simp (c.receiver_effect.ensures, c.receiver_enabling-enabling.ensures, c.enabled_then.ensures, c.action_of-action.ensures)

@@ -1,7 +1,7 @@
 -- `receiver_effect` meets its contract: each arm is the definition's, and the others ask for nothing here. Assumes nothing.
 use Rattle.format.specs.Pick.{pick}
 use Rattle.front_commands.specs.Commands.{receiver_effect}
-use Rattle.front_commands.proofs.Laws.Orders.{no_receivers}
+use Rattle.front_commands.proofs.Laws.Actions.{no_receivers}
 use Rattle.front_commands.proofs.commands.receiver_effect.Goals as goal
 
 pub returns-in-ResetReceiver : goal.returns-in-ResetReceiver

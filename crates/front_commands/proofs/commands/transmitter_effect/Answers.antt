@@ -1,7 +1,7 @@
 -- `transmitter_effect` meets its contract: each arm is the definition's, and the others ask for nothing here. Assumes nothing.
 use Rattle.format.specs.Pick.{pick}
 use Rattle.front_commands.specs.Commands.{transmitter_effect}
-use Rattle.front_commands.proofs.Laws.Orders.{no_transmitters}
+use Rattle.front_commands.proofs.Laws.Actions.{no_transmitters}
 use Rattle.front_commands.proofs.commands.transmitter_effect.Goals as goal
 
 pub returns-in-ResetTransmitter : goal.returns-in-ResetTransmitter

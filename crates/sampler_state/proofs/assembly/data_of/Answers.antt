@@ -1,17 +1,9 @@
 -- `data_of` meets its contract: a remainder by at most 256 is a byte. Assumes nothing.
 use native.Mathlib.Omega.{arith}
-use lib.Pow.{pow_pos}
-use Rattle.sampler_state.specs.Assembly.{data_width_of}
 use Rattle.sampler_state.proofs.Laws.Assembly.{data_small}
 use Rattle.sampler_state.proofs.assembly.data_of.Goals as goal
-
-pub nonzero_rem-result : goal.nonzero_rem-result
-nonzero_rem-result c = rw c.data_weight.ensures (pow_pos (data_width_of c.args.format).0)
 
 pub overflow_cast-result : goal.overflow_cast-result
 overflow_cast-result c =
     let small = data_small c.args.format c.args.value in
     rw c.data_weight.ensures (omega arith)
-
-pub returns : goal.returns
-returns c = simp c.data_weight.ensures

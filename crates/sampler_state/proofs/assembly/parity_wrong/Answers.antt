@@ -1,7 +1,6 @@
--- `parity_wrong` meets its contract: each way through the tests is the definition's; a power of two is no zero to divide by. Assumes nothing.
+-- `parity_wrong` meets its contract: a level differs from the right one where the definition says so. Assumes nothing.
 use mathlib.Core.Path.{◌≡◌, refl}
 use mathlib.Core.Bool.{Bool, true, false, not, beq}
-use lib.Pow.{pow_pos}
 use Rattle.format.specs.Pick.{pick}
 use Rattle.format.proofs.Laws.{steps}
 use Rattle.sampler_state.specs.Assembly.{parity_wrong_of}
@@ -13,9 +12,6 @@ differs true true = refl
 differs true false = refl
 differs false true = refl
 differs false false = refl
-
-pub nonzero_div-result : goal.nonzero_div-result
-nonzero_div-result c = rw c.data_weight.ensures (pow_pos _)
 
 pub returns-then-has_parity : goal.returns-then-has_parity
 unfolding parity_wrong_of
