@@ -40,10 +40,7 @@ fn check_byte(checked: Checked, byte: u8, known: bool) -> Checked
 {
     let times = add_said(checked.times, say(checked.reading, byte));
     let reading = take(checked.reading, byte, known);
-    Checked {
-        reading: reading,
-        times: times,
-    }
+    Checked { reading, times }
 }
 
 // A code is known where the table has it.

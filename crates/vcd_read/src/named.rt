@@ -5,27 +5,17 @@ ghost use Rattle.vcd_read.specs.Wires.{told, left, clash_of, twice_of, code_name
 use crate::wires::{WireHere, Wires};
 
 // The code of the wire of this name.
-pub fn code_named(wires: Wires, name: &[u8]) -> Option<u8>
+pub fn code_named(mut wires: Wires, name: &[u8]) -> Option<u8>
     ensures { result ≡ code_named name.now (left wires.entry) }
 {
-    for wire in wires {
-        if wire.name == name {
-            return Some(wire.code);
-        }
-    }
-    None
+    wires.find(|wire| wire.name == name).map(|wire| wire.code)
 }
 
 // Whether one of the others has this wire's code or name.
-fn clashes(wire: WireHere, others: Wires) -> bool
+fn clashes(wire: WireHere, mut others: Wires) -> bool
     ensures { result ≡ clash_of (told wire.entry) (left others.entry) }
 {
-    for other in others {
-        if other.code == wire.code || other.name == wire.name {
-            return true;
-        }
-    }
-    false
+    others.any(|other| other.code == wire.code || other.name == wire.name)
 }
 
 // "each once": whether two of the wires have the same code or the same name.

@@ -5,13 +5,11 @@ use mathlib.Core.Bool.{Bool, true, false}
 use mathlib.Core.List.{List}
 use native.Mathlib.Omega.{arith}
 use lib.Dec.{eqb}
-use lib.ListN.{length, drop, replicate, length-drop}
+use lib.ListN.{length, drop, replicate}
 use Rattle.std.specs.Prelude.{Option, None, Some, Result, Ok, Err, IfOk}
 use Rattle.std.specs.Option.{ok_or}
 use Rattle.format.specs.Pick.{pick}
 use Rattle.format.proofs.Laws.Pick.{pick_all}
-use Rattle.text.specs.Bytes.{bytes_of}
-use Rattle.vcd_text.specs.Header.{line_of}
 use Rattle.vcd_read.specs.Wires.{starts, wires_in, wires_over, twice_of, code_named, filled}
 use Rattle.vcd_read.specs.declared.checking.Checked.{Checked}
 use Rattle.vcd_read.specs.declared.scanning.Header.{Header}
@@ -20,17 +18,7 @@ use Rattle.vcd_read.specs.declared.scanning.Scanned.{Scanned}
 use Rattle.refusal.specs.declared.refusal.Refusal.TheVariants.{TextOutside, TimeNotLater}
 use Rattle.vcd_read.specs.Scan.{open_words, close_words, few, named_header, header_read}
 use Rattle.vcd_read.specs.Scan.{in_table, checked_of, unchecked, judged, scan_with, scan_of}
-use Rattle.vcd_read.proofs.Laws.Starts.{starts_within}
 use Rattle.vcd_read.proofs.Laws.Table.{table_is, checked_alike}
-
--- the wires begin within the text, and what is after them too
-pub opened : (text : List ℕ) → starts open_words text ≡ true → 46 ≤ length text
-unfolding bytes_of line_of
-opened text h = starts_within open_words text h
-
-pub closed : (text : List ℕ) (at : ℕ) → starts close_words (drop at text) ≡ true → at ≤ length text → at + 35 ≤ length text
-unfolding bytes_of line_of
-closed text at h l = omega (arith, starts_within close_words (drop at text) h, length-drop at text)
 
 module _ (text a b : List ℕ) where
   pub not_opened : starts open_words text ≡ false → header_read text a b ≡ None

@@ -5,9 +5,10 @@ use mathlib.Core.Bool.{Bool, true, false, ◌||◌}
 use mathlib.Core.List.{List, [], ◌∷◌}
 use lib.Dec.{eqb}
 use lib.ListN.{length, set}
-use borrow.Author.Tests.{eq-eqb, ne_eqb}
 use Rattle.std.specs.Cmp.Lexicographic.{pointwise}
-use Rattle.std.specs.Prelude.{None, Some}
+use Rattle.std.specs.Prelude.{Some, cond}
+use Rattle.std.specs.Option.{option_map}
+use Rattle.std.specs.List.{list_any, find}
 use Rattle.format.specs.Pick.{pick}
 use Rattle.vcd_text.specs.Header.{Wire}
 use Rattle.std.proofs.lemmas.Iterator.{YieldsList}
@@ -15,49 +16,10 @@ use Rattle.std.proofs.lemmas.Iterator.Consumers.{YieldsList-from_shown, count_fr
 use Rattle.std.specs.Iterator.{Drains}
 use Rattle.vcd_read.specs.declared.wires.WireHere.{WireHere}
 use Rattle.vcd_read.specs.declared.wires.Wires.{Wires}
-use Rattle.vcd_read.specs.Wires.{told, left, GivesWire, clash_of, twice_of, code_named, filled}
+use Rattle.vcd_read.specs.Wires.{told, left, GivesWire, same, clash_of, twice_of, code_named, filled}
 use Rattle.vcd_read.proofs.Laws.Starts.{same_is}
 
--- ---- by name ----
-
-module _ (name : List ℕ) (all : List Wire) where
-  pub named_none : all ≡ [] → code_named name all ≡ None
-  unfolding code_named
-  named_none e = rw e
-
-  module _ (w : Wire) (ws : List Wire) (e : all ≡ w ∷ ws) where
-    pub named_yes : pointwise eqb w.name name ≡ true → code_named name all ≡ Some w.code
-    unfolding code_named pick
-    named_yes h = rw (e, ← same_is name w.name, h)
-
-    pub named_no : pointwise eqb w.name name ≡ false → code_named name all ≡ code_named name ws
-    unfolding code_named pick
-    named_no h = rw (e, ← same_is name w.name, h)
-
 -- ---- once ----
-
-module _ (w : Wire) (all : List Wire) where
-  pub clash_none : all ≡ [] → clash_of w all ≡ false
-  unfolding clash_of
-  clash_none e = rw e
-
-  module _ (v : Wire) (vs : List Wire) (e : all ≡ v ∷ vs) where
-    pub clash_code : v.code ≡ w.code → clash_of w all ≡ true
-    unfolding clash_of pick
-    clash_code h = rw (e, eq-eqb v.code w.code h)
-
-    or_true : (t : Bool) → pick (t || true) true (clash_of w vs) ≡ true
-    unfolding pick
-    or_true true = refl
-    or_true false = refl
-
-    pub clash_name : pointwise eqb v.name w.name ≡ true → clash_of w all ≡ true
-    unfolding clash_of
-    clash_name h = rw (e, ← same_is w.name v.name, h) (or_true (eqb v.code w.code))
-
-    pub clash_no : (v.code ≡ w.code → ⊥) → pointwise eqb v.name w.name ≡ false → clash_of w all ≡ clash_of w vs
-    unfolding clash_of pick
-    clash_no n h = rw (e, ne_eqb v.code w.code n, ← same_is w.name v.name, h)
 
 module _ (all : List Wire) where
   pub twice_none : all ≡ [] → twice_of all ≡ false
@@ -92,3 +54,27 @@ gives_wires s = YieldsList-from_shown GivesWire told left (λ s t h. ap length h
 
 pub count_is : (s : Wires) (r : ℕ) → ((xs : List WireHere) × Drains GivesWire s xs × (r ≡ length xs)) → r ≡ length (left s)
 count_is s r h = count_from_yields_List s r h (gives_wires s)
+
+-- ---- as the library asks them ----
+
+or_pick : (t r : Bool) → (t || r) ≡ pick t true r
+unfolding pick
+or_pick true r = refl
+or_pick false r = refl
+
+-- `any`
+pub clash_any : (w : Wire) (ws : List Wire) → list_any (λ v. eqb v.code w.code || pointwise eqb v.name w.name) ws ≡ clash_of w ws
+unfolding clash_of
+clash_any w [] = refl
+clash_any w (v ∷ vs) = rw (same_is w.name v.name, clash_any w vs) (or_pick (eqb v.code w.code || same w.name v.name) (clash_of w vs))
+
+-- `find`
+pub named_find : (name : List ℕ) (ws : List Wire) → option_map (λ v. v.code) (find (λ v. pointwise eqb v.name name) ws) ≡ code_named name ws
+unfolding code_named pick
+named_find name [] = refl
+named_find name (w ∷ ws) = rw (same_is name w.name) (go (same name w.name) (named_find name ws))
+  where
+    go : (t : Bool) → option_map (λ v. v.code) (find (λ v. pointwise eqb v.name name) ws) ≡ code_named name ws
+        → option_map (λ v. v.code) (cond t (Some w) (find (λ v. pointwise eqb v.name name) ws)) ≡ pick t (Some w.code) (code_named name ws)
+    go true h = refl
+    go false h = h

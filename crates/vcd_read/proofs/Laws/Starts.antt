@@ -1,7 +1,7 @@
 -- What stands at the beginning of a text, as the definitions and as the library say it. Assumes nothing.
 use Prim.Native.Nat.{ℕ, zero, suc, ◌+◌, ◌≤◌, ◌<◌}
 use mathlib.Core.Path.{◌≡◌, refl, sym, ◌∙◌, ap}
-use mathlib.Core.Bool.{Bool, true, false, ◌&&◌, cond, false≢true}
+use mathlib.Core.Bool.{Bool, true, false, ◌&&◌, cond}
 use mathlib.Core.List.{List, [], ◌∷◌}
 use native.Mathlib.Numerals.{add-one}
 use native.Mathlib.Omega.{arith}
@@ -50,18 +50,6 @@ stripped_is (w ∷ ws) (b ∷ bs) =
     ap (λ (r : Bool). r && pointwise eqb (take (length ws) bs) ws) (eqb_turned b w)
     ∙ ap (λ (r : Bool). eqb w b && r) (stripped_is ws bs)
     ∙ both_pick (eqb w b) (starts ws bs)
-
-taken : (t r : Bool) → pick t r false ≡ true → r ≡ true
-unfolding pick
-taken true r h = h
-taken false r h = absurd (false≢true h)
-
--- what stands there is no longer than the text
-pub starts_within : (words text : List ℕ) → starts words text ≡ true → length words ≤ length text
-unfolding starts pick
-starts_within [] text h = omega arith
-starts_within (w ∷ ws) [] h = absurd (false≢true h)
-starts_within (w ∷ ws) (b ∷ bs) h = let l = starts_within ws bs (taken (eqb w b) (starts ws bs) h) in omega arith
 
 -- a space
 pub blank_is : (text : List ℕ) → starts (32 ∷ []) text ≡ eqb (get_or text 0 0) 32

@@ -5,15 +5,13 @@ use mathlib.Core.Bool.{Bool, true, false, ◌&&◌, false≢true, and-eq-true_if
 use mathlib.Core.List.{List, [], ◌∷◌}
 use native.Mathlib.Omega.{arith}
 use lib.Dec.{eqb, ltb, leb}
-use lib.ListN.{length, take, drop, get_or, get_or-eq_default, length-drop, drop_of_length-le}
+use lib.ListN.{length, take, drop, get_or, get_or-eq_default, drop_of_length-le}
 use lib.Seq.{get_or-drop, drop-drop}
 use borrow.Author.Tests.{ltb-true, leb-true, leb-false}
 use Rattle.format.specs.Pick.{pick}
-use Rattle.text.specs.Bytes.{bytes_of}
-use Rattle.vcd_text.specs.Header.{line_of}
 use Rattle.vcd_read.specs.Wires.{starts, visible, name_of, var_words, end_words, name_here, named, wire_here, is_wire, wire_end}
 use Rattle.vcd_read.specs.Wires.{wires_of, wires_end}
-use Rattle.vcd_read.proofs.Laws.Starts.{starts_within, name_take}
+use Rattle.vcd_read.proofs.Laws.Starts.{name_take}
 
 -- ---- no wire ----
 
@@ -69,15 +67,6 @@ taken_end : (t r : Bool) → pick t r false ≡ true → (t ≡ true) × (r ≡ 
 unfolding pick
 taken_end true r h = (refl, h)
 taken_end false r h = absurd (false≢true h)
-
--- a wire's line is within the text
-pub wire_within : (text : List ℕ) → is_wire text ≡ true → wire_end text ≤ length text
-unfolding is_wire bytes_of line_of
-wire_within text h =
-    let b = (taken_end _ _ h).1 in
-    let c = (taken_end _ _ b).1 in
-    let d = (taken_end _ _ c).1 in
-    omega (arith, starts_within end_words (drop (14 + length (name_here text)) text) d, length-drop (14 + length (name_here text)) text)
 
 -- ---- the pieces of a line, as they are taken off ----
 

@@ -1,26 +1,17 @@
--- `clashes` meets its contract. The invariant of its loop: the wires that are left decide. Assumes nothing.
-use mathlib.Core.Path.{sym, ◌∙◌}
+-- `clashes` meets its contract: any of the others is asked. Assumes nothing.
+use mathlib.Core.Path.{◌∙◌}
+use mathlib.Core.Bool.{◌||◌}
+use borrow.Author.Tests.{tests}
+use lib.Dec.{eqb}
+use Rattle.std.proofs.Common.{rules}
+use Rattle.std.proofs.lemmas.Iterator.Search.{any_from_yields_List}
+use Rattle.std.specs.Cmp.Lexicographic.{pointwise}
+use Rattle.vcd_text.specs.Header.{Wire}
 use Rattle.vcd_read.specs.Wires.{told, left}
-use Rattle.vcd_read.proofs.Laws.Named.{clash_none, clash_code, clash_name, clash_no}
+use Rattle.vcd_read.proofs.Laws.Named.{gives_wires, clash_any}
 use Rattle.vcd_read.proofs.named.clashes.Goals as goal
-use Rattle.vcd_read.proofs.named.clashes.Goals.{then-other-wire-via-then-other-wire, then-other-wire-via-else-other-wire+then-eq}
-
-pub returns-then-other-wire : goal.returns-then-other-wire
-returns-then-other-wire c =
-    let w = told c.args.wire in
-    let all = left c.loop-other.other-iterator in
-    let v = told c.in-Some.other in
-    let vs = left c.next.new.self in
-    let e = c.in-Some.ensures.steps.0 in
-    elim c.then-other-wire.branch [
-      | then-other-wire-via-then-other-wire b ↦ sym (clash_code w all v vs e b.if-other-wire.true) ∙ c.loop-other.invariant
-      | then-other-wire-via-else-other-wire+then-eq b ↦ sym (clash_name w all v vs e (sym b.eq.ensures ∙ b.if-eq.true)) ∙ c.loop-other.invariant
-    ]
-
-pub loop-other-preserved : goal.loop-other-preserved
-loop-other-preserved c =
-    sym (clash_no (told c.args.wire) (left c.loop-other.other-iterator) (told c.in-Some.other) (left c.next.new.self) c.in-Some.ensures.steps.0 c.if-other-wire.false (sym c.eq.ensures ∙ c.if-eq.false))
-    ∙ c.loop-other.invariant
 
 pub returns : goal.returns
-returns c = sym (clash_none (told c.args.wire) (left c.loop-other.other-iterator) c.in-None.ensures.steps.0) ∙ c.loop-other.invariant
+returns c =
+    any_from_yields_List (λ (v : Wire). eqb v.code c.args.wire.code || pointwise eqb v.name c.args.wire.name.now) _ _ _ c.any.ensures.ran (gives_wires c.args.others) (λ x b q k. search (rules, tests))
+    ∙ clash_any (told c.args.wire) (left c.args.others)
