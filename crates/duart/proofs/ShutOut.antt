@@ -5,6 +5,7 @@ use mathlib.Core.Bool.{Bool, true, false, true≢false}
 use mathlib.Core.List.{List, [], ◌∷◌}
 use native.Mathlib.Omega.{arith}
 use lib.ListN.{get_or, replicate}
+use Rattle.std.specs.Prelude.{Ok}
 use Rattle.format.specs.Pick.{pick}
 use Rattle.request.specs.Request.{first_refusal, answer_of, request_of, space_after}
 use Rattle.chip_answers.specs.Answers.{no_lines}
@@ -43,7 +44,7 @@ unfolding computing space_after request_of answer_of first_refusal
 no_frame_of_mr1 h = omega (arith, ap (λ (s : List ℕ). get_or s 16 0) (h 19 7 0 (replicate 200 7)))
 
 -- order 7: "the caller names a channel and is handed the filled part of that channel's log": the other channel's length
-no_other_length : 2 ≡ (capture_seen (record { number = 0; length_a = 4; length_b = 2 }) false).length → ⊥
+no_other_length : 2 ≡ (capture_seen (Ok (record { length_a = 4; length_b = 2 })) false).length → ⊥
 unfolding capture_seen pick
 no_other_length = omega arith
 

@@ -3,9 +3,13 @@ use Rattle.format.proofs.Laws.{steps}
 use Rattle.duart.specs.Duart.{capture_seen}
 use Rattle.duart.proofs.duart.capture_seen.Goals as goal
 
-pub returns-in-Ok : goal.returns-in-Ok
+pub returns-then-channel_b : goal.returns-then-channel_b
 unfolding capture_seen
-returns-in-Ok c = search steps
+returns-then-channel_b c = rw c.in-Ok.is (search steps)
+
+pub returns-else-channel_b : goal.returns-else-channel_b
+unfolding capture_seen
+returns-else-channel_b c = rw c.in-Ok.is (search steps)
 
 pub returns-in-Err : goal.returns-in-Err
 unfolding capture_seen
