@@ -1,11 +1,11 @@
 -- The laws of a word that spells a number, of the lines of a log, and of what is said of a capture. Assumes nothing.
-use Prim.Native.Nat.{ℕ, zero, suc, ◌+◌, ◌*◌, ◌^◌, ◌≤◌, ◌<◌}
+use Prim.Native.Nat.{ℕ, zero, suc, ◌+◌, ◌-◌, ◌*◌, ◌^◌, ◌≤◌, ◌<◌}
 use mathlib.Core.Path.{◌≡◌, refl, sym, ◌∙◌, ap}
 use mathlib.Core.List.{List, [], ◌∷◌, ◌++◌}
 use native.Mathlib.Numerals.{add-one}
 use native.Mathlib.Omega.{arith}
 use lib.ListN.{length, take, drop, get_or, length-append, length-take}
-use lib.Seq.{drop-cons}
+use lib.Seq.{drop-cons, take-length}
 use borrow.Author.Tests.{ne_eqb}
 use Rattle.format.specs.Pick.{pick}
 use Rattle.text.specs.Bytes.{bytes_of}
@@ -46,22 +46,21 @@ spelled_end (b ∷ w) n (suc i) h = spelled_end w n i (omega arith)
 
 -- ---- the lines of a log ----
 
-pub lines_next : (letter : ℕ) (log : List ℕ) (i : ℕ) → i + 1 < length log
-    → character_lines letter (drop i log)
-    ≡ character_line letter (get_or log i 0) (get_or log (i + 1) 0) ++ character_lines letter (drop (i + 2) log)
+pub lines_next : (letter : ℕ) (log : List ℕ) → 2 ≤ length log
+    → character_lines letter log
+    ≡ character_line letter (get_or log 0 0) (get_or log 1 0) ++ character_lines letter (take (length log - 2) (drop 2 log))
 unfolding character_lines
-lines_next letter log i h =
-    let e : i + 2 ≡ suc (i + 1) = omega arith in
-    let f : i + 1 ≡ suc i = omega arith in
-    rw (drop-cons log i 0 (omega arith), e, f, drop-cons log (suc i) 0 (omega arith))
+lines_next letter [] h = absurd (omega arith)
+lines_next letter (d ∷ []) h = absurd (omega arith)
+lines_next letter (d ∷ m ∷ log) h =
+    let e : suc (suc (length log)) - 2 ≡ length log = omega arith in
+    rw (e, take-length log)
 
-pub lines_end : (letter : ℕ) (log : List ℕ) (i : ℕ) → length log ≤ i + 1 → character_lines letter (drop i log) ≡ []
+pub lines_end : (letter : ℕ) (log : List ℕ) → length log < 2 → character_lines letter log ≡ []
 unfolding character_lines
-lines_end letter [] zero h = refl
-lines_end letter [] (suc i) h = refl
-lines_end letter (d ∷ []) zero h = refl
-lines_end letter (d ∷ m ∷ log) zero h = absurd (omega arith)
-lines_end letter (d ∷ log) (suc i) h = lines_end letter log i (omega arith)
+lines_end letter [] h = refl
+lines_end letter (d ∷ []) h = refl
+lines_end letter (d ∷ m ∷ log) h = absurd (omega arith)
 
 pub line_within : (letter d m : ℕ) → length (character_line letter d m) ≤ 10
 unfolding character_line

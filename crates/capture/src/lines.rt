@@ -11,9 +11,9 @@ fn put_line(letter: u8, data: u8, marks: u8, at: usize, space: &mut [u8]) -> usi
     ensures { Puts at (character_line letter «data» marks) space.old space.new result }
 {
     put(letter, at, space);
-    put(32, at + 1, space);
-    let next = put_byte(data, 32, at + 2, space);
-    put_byte(marks, 10, next, space)
+    put(b' ', at + 1, space);
+    let next = put_byte(data, b' ', at + 2, space);
+    put_byte(marks, b'\n', next, space)
 }
 
 // The lines of a channel, one for each two bytes of its log.
@@ -22,10 +22,10 @@ pub fn put_lines(letter: u8, log: &[u8], at: usize, space: &mut [u8]) -> usize
     ensures { Puts at (character_lines letter log.now) space.old space.new result }
 {
     let mut next = at;
-    let mut i = 0usize;
-    while i + 1 < log.len() {
-        next = put_line(letter, log[i], log[i + 1], next, space);
-        i += 2;
+    let mut left = log;
+    while let [data, marks, rest @ ..] = left {
+        next = put_line(letter, *data, *marks, next, space);
+        left = rest;
     }
     next
 }

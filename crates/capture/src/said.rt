@@ -14,7 +14,7 @@ fn put_refused(number: u8, space: &mut [u8]) -> usize
     ensures { Puts 0 (refused_text number) space.old space.new result }
 {
     let begun = put_bytes(b"refused ", 0, space);
-    put_byte(number, 10, begun, space)
+    put_byte(number, b'\n', begun, space)
 }
 
 // All lines of A first, in order, then all of B.
@@ -38,6 +38,6 @@ pub fn put_said(
     }
     let length_a = captured.length_a;
     let length_b = captured.length_b;
-    let after_a = put_lines(65, &log_a[..length_a], 0, space);
-    put_lines(66, &log_b[..length_b], after_a, space)
+    let after_a = put_lines(b'A', &log_a[..length_a], 0, space);
+    put_lines(b'B', &log_b[..length_b], after_a, space)
 }
