@@ -33,14 +33,13 @@ fn drive(bench: Bench, word: Word) -> Stopped {
             |bench, turns| character_turn(bench, channel.mask(), byte, turns),
             |_, _| false,
         ),
-        Word::Wired => stop(
-            Bench {
-                answer: bench.answer,
-                pins: bench.pins,
+        Word::Wired => {
+            let wired = Bench {
                 wired: true,
-            },
-            0,
-        ),
+                ..bench
+            };
+            stop(wired, 0)
+        }
         Word::Until { register, mask } => go(
             bench,
             MOST_READS,
