@@ -29,7 +29,7 @@ fn take(bench: Bench, event: Event) -> Bench {
     Bench {
         answer: step(bench.answer.state, event),
         pins,
-        wired: bench.wired,
+        ..bench
     }
 }
 

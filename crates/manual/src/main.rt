@@ -19,14 +19,16 @@ mod text;
 mod trace;
 mod word;
 
+use script::run_examples;
+
 fn main(rt: HostRuntime) {
     rates::examples(&rt);
-    register_table::examples(&rt);
-    command_table::examples(&rt);
-    initialization::examples(&rt);
-    inch_outch::examples(&rt);
-    loopback::examples(&rt);
-    break_change::examples(&rt);
-    counter_ready::examples(&rt);
+    run_examples(&rt, &register_table::EXAMPLES);
+    run_examples(&rt, &command_table::EXAMPLES);
+    run_examples(&rt, &initialization::EXAMPLES);
+    run_examples(&rt, &inch_outch::EXAMPLES);
+    run_examples(&rt, &loopback::EXAMPLES);
+    run_examples(&rt, &break_change::EXAMPLES);
+    run_examples(&rt, &counter_ready::EXAMPLES);
     stops::examples(&rt);
 }

@@ -78,17 +78,13 @@ impl Rate {
     }
 }
 
-fn write_both(bench: Bench, first: u8, byte: u8, second: u8, next: u8) -> Bench {
-    act(
-        act(bench, Event::Write(first, byte)),
-        Event::Write(second, next),
-    )
-}
-
 // Channel A's transmitter with this clock and format, and a byte to send.
 pub fn sending(acr: u8, csr: u8, mr1: u8, mr2: u8, byte: u8) -> Bench {
-    let clocked = write_both(start(), 4, acr, 1, csr);
-    write_both(write_both(clocked, 0, mr1, 0, mr2), 2, 4, 3, byte)
+    let mut bench = start();
+    for (register, written) in [(4, acr), (1, csr), (0, mr1), (0, mr2), (2, 4), (3, byte)] {
+        bench = act(bench, Event::Write(register, written));
+    }
+    bench
 }
 
 // The ticks of one bit of 85, whose ten bits differ each from the one before: from the start bit on, the nine that an

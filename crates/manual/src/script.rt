@@ -33,14 +33,13 @@ fn drive(bench: Bench, word: Word) -> Stopped {
             |bench, turns| character_turn(bench, channel.mask(), byte, turns),
             |_, _| false,
         ),
-        Word::Wired => stop(
-            Bench {
-                answer: bench.answer,
-                pins: bench.pins,
+        Word::Wired => {
+            let wired = Bench {
                 wired: true,
-            },
-            0,
-        ),
+                ..bench
+            };
+            stop(wired, 0)
+        }
         Word::Until { register, mask } => go(
             bench,
             MOST_READS,
@@ -77,9 +76,18 @@ fn run(rt: &impl Print, script: &str) -> bool {
     same
 }
 
-// One example: its name and source, what came, and the verdict.
-pub fn example(rt: &impl Print, name: &str, script: &str, verdict: &str) {
-    print(rt, format_args!("{name}:"));
-    let same = run(rt, script);
-    print_verdict(rt, same, verdict);
+// An example: its name and source, its script, and the verdict where every word agrees.
+#[derive(Clone, Copy)]
+pub struct Example {
+    pub name: &'static str,
+    pub script: &'static str,
+    pub verdict: &'static str,
+}
+
+pub fn run_examples(rt: &impl Print, examples: &[Example]) {
+    for example in examples {
+        print(rt, format_args!("{}:", example.name));
+        let same = run(rt, example.script);
+        print_verdict(rt, same, example.verdict);
+    }
 }

@@ -2,7 +2,7 @@
 // request.
 use crate::bench::{act, hold};
 use crate::rates::{quotient, sending};
-use crate::script::example;
+use crate::script::{Example, run_examples};
 use crate::text::{Thousandths, print, print_verdict};
 use events::Event;
 use request::request_frame;
@@ -83,21 +83,20 @@ fn two_bit_field(rt: &impl Print, code: u8, other: u64, longer: u64) {
     );
 }
 
-// With an external 1X clock MR2 bit 3 clear is one stop bit, and set two (000, table 6, note). Five zeros and a start: six low bits.
-fn external_clock(rt: &impl Print) {
-    example(
-        rt,
-        "stop length at 1X, MR2 bit 3 clear (000, table 6, MR2, note): one bit",
-        "w0,16 w0,7 w1,255 w2,4 w3,0 c1 d0 w3,0 c5 d0 c1 d1 c1 d0 ",
-        "as the manual says",
-    );
-    example(
-        rt,
-        "stop length at 1X, MR2 bit 3 set (000, table 6, MR2, note): two bits",
-        "w0,16 w0,8 w1,255 w2,4 w3,0 c1 d0 w3,0 c5 d0 c1 d1 c1 d1 c1 d0 ",
-        "as the manual says",
-    );
-}
+// With an external 1X clock MR2 bit 3 clear is one stop bit, and set two (000, table 6, note). Five zeros and a start:
+// six low bits.
+const EXTERNAL_CLOCK: [Example; 2] = [
+    Example {
+        name: "stop length at 1X, MR2 bit 3 clear (000, table 6, MR2, note): one bit",
+        script: "w0,16 w0,7 w1,255 w2,4 w3,0 c1 d0 w3,0 c5 d0 c1 d1 c1 d0",
+        verdict: "as the manual says",
+    },
+    Example {
+        name: "stop length at 1X, MR2 bit 3 set (000, table 6, MR2, note): two bits",
+        script: "w0,16 w0,8 w1,255 w2,4 w3,0 c1 d0 w3,0 c5 d0 c1 d1 c1 d1 c1 d0",
+        verdict: "as the manual says",
+    },
+];
 
 // The table's sixteen codes: the thousandths for 6 to 8 bits, and for 5.
 const STOPS: [(u8, u64, u64); 16] = [
@@ -131,5 +130,5 @@ pub fn examples(rt: &impl Print) {
     ] {
         two_bit_field(rt, code, other, longer);
     }
-    external_clock(rt);
+    run_examples(rt, &EXTERNAL_CLOCK);
 }

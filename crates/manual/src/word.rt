@@ -1,4 +1,4 @@
-// The words of a script: a letter, then one number or two with a comma between, then a space.
+// The words of a script, with spaces between: a letter, then one number or two with a comma between.
 //
 //   w register,byte    a write, accepted
 //   r register,byte    a read, accepted, and this byte comes
