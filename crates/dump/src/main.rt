@@ -35,41 +35,6 @@ fn print_error(errors: &impl Print, line: u64) {
     let _ = errors.write_all(&space[..length]);
 }
 
-fn record_of(event: Event) -> EventRecord {
-    match event {
-        Event::ChipReset => EventRecord {
-            kind: 0,
-            reg: 0,
-            byte: 0,
-        },
-        Event::Read(n) => EventRecord {
-            kind: 1,
-            reg: n,
-            byte: 0,
-        },
-        Event::Write(n, byte) => EventRecord {
-            kind: 2,
-            reg: n,
-            byte: byte,
-        },
-        Event::Acknowledge => EventRecord {
-            kind: 3,
-            reg: 0,
-            byte: 0,
-        },
-        Event::Pins(levels) => EventRecord {
-            kind: 4,
-            reg: 0,
-            byte: levels,
-        },
-        Event::Tick => EventRecord {
-            kind: 5,
-            reg: 0,
-            byte: 0,
-        },
-    }
-}
-
 fn add(record: EventRecord, count: usize, events: &mut [u8]) -> usize {
     if count < TOO_MANY {
         let at = 3 * count;
@@ -86,7 +51,7 @@ fn add_ticks(times: u64, count: usize, events: &mut [u8]) -> usize {
     let mut left = times;
     let mut next = count;
     while left > 0 && next < TOO_MANY {
-        next = add(record_of(Event::Tick), next, events);
+        next = add(EventRecord::from(Event::Tick), next, events);
         left -= 1;
     }
     next
@@ -100,7 +65,7 @@ fn add_line(errors: &impl Print, said: Line, line: u64, count: usize, events: &m
             count
         }
         Line::Ticks(times) => add_ticks(times.0, count, events),
-        Line::One(event) => add(record_of(event), count, events),
+        Line::One(event) => add(EventRecord::from(event), count, events),
     }
 }
 
