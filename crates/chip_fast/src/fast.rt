@@ -15,17 +15,11 @@ use front_clocks::tick_front;
 use receiver::feed_receiver;
 use refusal::Refusal;
 
+#[tactic(auto, unfolding(crate::specs::Fast::is_tick))]
 fn is_tick(event: Event) -> bool
     ensures { result ≡ is_tick event }
 {
-    match event {
-        Event::ChipReset => false,
-        Event::Read(n) => false,
-        Event::Write(n, byte) => false,
-        Event::Acknowledge => false,
-        Event::Pins(levels) => false,
-        Event::Tick => true,
-    }
+    matches!(event, Event::Tick)
 }
 
 // Accepted, no data, "lines as that state drives them": the answer to a tick that left this state, and what a program knows

@@ -12,50 +12,37 @@ use front_side::mode_not_modelled;
 use outputs::opcr_not_modelled;
 
 // 2: "register above 15"
+#[tactic(auto, unfolding(crate::specs::Rows::register_above15, format::specs::Pick::pick))]
 pub fn is_register_above_15(event: Event) -> bool
     ensures { result ≡ register_above15 event }
 {
     match event {
-        Event::ChipReset => false,
-        Event::Read(register) => 15 < register,
-        Event::Write(register, byte) => 15 < register,
-        Event::Acknowledge => false,
-        Event::Pins(levels) => false,
-        Event::Tick => false,
+        Event::Read(register) | Event::Write(register, _) => 15 < register,
+        _ => false,
     }
 }
 
 // 3: "read of register 2 or 10"
+#[tactic(auto, unfolding(crate::specs::Rows::forbidden_read, format::specs::Pick::pick))]
 pub fn is_forbidden_read(event: Event) -> bool
     ensures { result ≡ forbidden_read event }
 {
-    match event {
-        Event::ChipReset => false,
-        Event::Read(register) => (register == 2) | (register == 10),
-        Event::Write(register, byte) => false,
-        Event::Acknowledge => false,
-        Event::Pins(levels) => false,
-        Event::Tick => false,
-    }
+    matches!(event, Event::Read(2 | 10))
 }
 
 // 4: "command whose bits 3-2 or 1-0 are 11": a write of register 2 or 10 is a command.
+#[tactic(auto, unfolding(crate::specs::Rows::forbidden_command, format::specs::Pick::pick))]
 pub fn is_forbidden_command(event: Event) -> bool
     ensures { result ≡ forbidden_command event }
 {
     match event {
-        Event::ChipReset => false,
-        Event::Read(register) => false,
-        Event::Write(register, byte) => {
-            ((register == 2) | (register == 10)) & command_forbidden(byte)
-        }
-        Event::Acknowledge => false,
-        Event::Pins(levels) => false,
-        Event::Tick => false,
+        Event::Write(2 | 10, byte) => command_forbidden(byte),
+        _ => false,
     }
 }
 
 // MR1 or MR2, where that channel's pointer is, and OPCR: no other register has a setting not modelled.
+#[tactic(auto, unfolding(crate::specs::Rows::write_not_modelled, format::specs::Pick::pick))]
 fn write_not_modelled(front: Front, register: u8, byte: u8) -> bool
     ensures { result ≡ write_not_modelled front register byte }
 {
@@ -72,12 +59,8 @@ pub fn chooses_not_modelled(front: Front, event: Event) -> bool
     ensures { result ≡ setting_not_modelled front event }
 {
     match event {
-        Event::ChipReset => false,
-        Event::Read(register) => false,
         Event::Write(register, byte) => write_not_modelled(front, register, byte),
-        Event::Acknowledge => false,
-        Event::Pins(levels) => false,
-        Event::Tick => false,
+        _ => false,
     }
 }
 
@@ -90,15 +73,12 @@ fn is_device_asserted(device: Device) -> bool
 }
 
 // 6: "acknowledge while IRQ is not asserted"
+#[tactic(auto, unfolding(crate::specs::Rows::acknowledged_unasserted, format::specs::Pick::pick))]
 pub fn is_unasserted_acknowledge(device: Device, event: Event) -> bool
     ensures { result ≡ acknowledged_unasserted device event }
 {
     match event {
-        Event::ChipReset => false,
-        Event::Read(register) => false,
-        Event::Write(register, byte) => false,
         Event::Acknowledge => !is_device_asserted(device),
-        Event::Pins(levels) => false,
-        Event::Tick => false,
+        _ => false,
     }
 }

@@ -56,38 +56,30 @@ fn step_record(device: Device, event: EventRecord) -> Answer
     swift_step(device, event_of(event))
 }
 
-// The parts of a poll's and of a run's answer.
-fn state_polled(polled: Polled) -> Device
-    ensures { result ≡ polled.state }
-{
-    polled.state
-}
+// All of a poll's and of a run's answer but the state, which is stored in the device lent.
+impl From<Polled> for PolledSeen {
+    ghost from_gives = { λ polled seen. seen ≡ polled_seen polled };
 
-fn polled_seen(polled: Polled) -> PolledSeen
-    ensures { result ≡ polled_seen polled }
-{
-    PolledSeen {
-        number: polled.number,
-        count: polled.count,
+    fn from(polled: Polled) -> Self {
+        PolledSeen {
+            number: polled.number,
+            count: polled.count,
+        }
     }
 }
 
-fn state_ran(ran: Ran) -> Device
-    ensures { result ≡ ran.state }
-{
-    ran.state
-}
+impl From<Ran> for RanSeen {
+    ghost from_gives = { λ ran seen. seen ≡ ran_seen ran };
 
-fn ran_seen(ran: Ran) -> RanSeen
-    ensures { result ≡ ran_seen ran }
-{
-    RanSeen {
-        number: ran.number,
-        ticks: ran.ticks,
-        irq: ran.lines.irq,
-        txda: ran.lines.txda,
-        txdb: ran.lines.txdb,
-        op: ran.lines.op,
+    fn from(ran: Ran) -> Self {
+        RanSeen {
+            number: ran.number,
+            ticks: ran.ticks,
+            irq: ran.lines.irq,
+            txda: ran.lines.txda,
+            txdb: ran.lines.txdb,
+            op: ran.lines.op,
+        }
     }
 }
 
@@ -137,9 +129,8 @@ pub extern "C" fn duart_poll(
 {
     let given = *device;
     let polled = poll(given, events, answers);
-    let state = state_polled(polled);
-    *device = state;
-    polled_seen(polled)
+    *device = polled.state;
+    PolledSeen::from(polled)
 }
 
 // order 5: "A companion runs ticks until IRQ is asserted or a budget of up to 1,000,000 is spent"
@@ -150,9 +141,8 @@ pub extern "C" fn duart_run(device: &mut Device, budget: u32) -> RanSeen
 {
     let given = *device;
     let ran = run(given, budget);
-    let state = state_ran(ran);
-    *device = state;
-    ran_seen(ran)
+    *device = ran.state;
+    RanSeen::from(ran)
 }
 
 // "A separate request writes a frame's levels, one byte 0 or 1 per 16X pulse, at most 192, from MR1, MR2 and a byte;

@@ -28,41 +28,6 @@ fn print_error(errors: &impl Print, line: u64) {
     let _ = errors.write_all(write_error(line, &mut space));
 }
 
-fn record_of(event: Event) -> EventRecord {
-    match event {
-        Event::ChipReset => EventRecord {
-            kind: 0,
-            reg: 0,
-            byte: 0,
-        },
-        Event::Read(n) => EventRecord {
-            kind: 1,
-            reg: n,
-            byte: 0,
-        },
-        Event::Write(n, byte) => EventRecord {
-            kind: 2,
-            reg: n,
-            byte: byte,
-        },
-        Event::Acknowledge => EventRecord {
-            kind: 3,
-            reg: 0,
-            byte: 0,
-        },
-        Event::Pins(levels) => EventRecord {
-            kind: 4,
-            reg: 0,
-            byte: levels,
-        },
-        Event::Tick => EventRecord {
-            kind: 5,
-            reg: 0,
-            byte: 0,
-        },
-    }
-}
-
 // The list of events, three bytes each, filled from the front of the room for it.
 #[derive(Drop)]
 struct Events<'a> {
@@ -73,7 +38,7 @@ struct Events<'a> {
 impl<'a> Events<'a> {
     fn push(&mut self, event: Event) {
         if self.count < TOO_MANY {
-            let record = record_of(event);
+            let record = EventRecord::from(event);
             let at = 3 * self.count;
             put(record.kind, at, self.room);
             put(record.reg, at + 1, self.room);

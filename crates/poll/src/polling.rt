@@ -46,6 +46,7 @@ pub fn state_in(answer: Answer) -> Device
     answer.state
 }
 
+// Kept: no From<Answer> for Seen: neither type is this crate's, so that Rust's orphan rule leaves it no place here.
 pub fn seen_in(answer: Answer) -> Seen
     ensures { result ≡ seen_in answer }
 {

@@ -4,12 +4,13 @@ use Rattle.refusal.proofs.Laws.{never_0}
 use Rattle.chip_step.proofs.Laws.Table.{accepts, refuses_seven, refuses_first}
 use Rattle.chip_device.specs.Device.{is_sound_of}
 use Rattle.chip_step.specs.declared.chip.Taken.{Taken}
+use Rattle.chip_step.specs.Chip.{refused_of}
 use Rattle.chip_step.proofs.chip.step.Goals as goal
 
 pub returns-in-Some : goal.returns-in-Some
 returns-in-Some c =
     let first = c.in-Some.ensures in
-    rw (c.refuse.ensures, first) (sym (refuses_first _ _ (λ none. never_0 c.in-Some.refusal (first ∙ none))))
+    c.refuse.ensures ∙ ap (refused_of c.args.device) first ∙ sym (refuses_first _ _ (λ none. never_0 c.in-Some.refusal (first ∙ none)))
 
 pub returns-then-is_sound : goal.returns-then-is_sound
 returns-then-is_sound c =
