@@ -1,7 +1,8 @@
 -- Order 7: "Customers send value change dumps of the real chip's two RxD lines. .. Turn each line, up to the last time, into
 -- characters by document 01's receiver, just enabled, phase 0, for a given MR1, ACR bit 7 and CSR code 0 to 12." Assumes
 -- nothing.
-use Rattle.std.specs.Prelude.{ℕ, ◌+◌, ◌≡◌, Bool, true, ◌||◌, List, [], ◌++◌, eqb, ltb, length, drop, Option, None, Some, Result, Ok, Err}
+use Rattle.std.specs.Prelude.{ℕ, ◌+◌, ◌≡◌, Bool, true, ◌||◌, List, [], ◌++◌, eqb, ltb, length, drop}
+use Rattle.std.specs.Prelude.{Option, None, Some, Result, Ok, Err}
 use Rattle.format.specs.Pick.{pick}
 use Rattle.format.specs.Format.{mr1_not_modelled, format_of}
 use Rattle.feed.specs.declared.feed.Setting.{Setting}

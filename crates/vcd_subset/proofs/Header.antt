@@ -15,7 +15,7 @@ use Rattle.vcd_text.specs.Header.{Wire, line_of, wire_lines, header_of}
 use Rattle.vcd_read.specs.declared.scanning.Header.{Header}
 use Rattle.vcd_read.specs.Wires.{starts, is_wire, wires_end, wires_in, wires_over, same, clash_of, twice_of, has_code, code_named}
 use Rattle.vcd_read.specs.Scan.{open_words, close_words, named_header, header_read}
-use Rattle.vcd_subset.specs.Subset.{Apart, GoodWires, HasCode, Named}
+use Rattle.vcd_subset.specs.Subset.{Visible, Apart, GoodWires, HasCode, Named}
 use Rattle.vcd_subset.proofs.Wires.{both, starts_own, starts_back, same_own, same_back, AllGood, wires_there, wires_back}
 
 -- ---- "each once" ----
@@ -98,16 +98,18 @@ apart_name w (v ∷ vs) name c zero (q, (n, h)) l e =
 apart_name w (v ∷ vs) name c (suc k) (q, (n, h)) l e = apart_name w vs name c k h (omega arith) e
 
 name_at : (ws : List Wire) (name : List ℕ) (c k : ℕ) → GoodWires ws → k < length ws
-    → get_or ws k (record { code = c; name = name }) ≡ record { code = c; name = name } → code_named name ws ≡ Some c
+    → get_or ws k (record { code = c; name = name }) ≡ record { code = c; name = name } → (code_named name ws ≡ Some c) × Visible c
 unfolding code_named GoodWires pick
 name_at [] name c k g l e = absurd (omega arith)
 name_at (w ∷ ws) name c zero (g, (a, gs)) l e =
     let n : w.name ≡ name = ap (λ (x : Wire). x.name) e in
     let q : w.code ≡ c = ap (λ (x : Wire). x.code) e in
-    rw (n, q, same_own name)
-name_at (w ∷ ws) name c (suc k) (g, (a, gs)) l e = rw (apart_name w ws name c k a (omega arith) e) (name_at ws name c k gs (omega arith) e)
+    (rw (n, q, same_own name), (rw q at g).code)
+name_at (w ∷ ws) name c (suc k) (g, (a, gs)) l e =
+    let (found, v) = name_at ws name c k gs (omega arith) e in
+    (rw (apart_name w ws name c k a (omega arith) e) found, v)
 
-pub name_is : (ws : List Wire) (name : List ℕ) (c : ℕ) → GoodWires ws → Named ws name c → code_named name ws ≡ Some c
+pub name_is : (ws : List Wire) (name : List ℕ) (c : ℕ) → GoodWires ws → Named ws name c → (code_named name ws ≡ Some c) × Visible c
 name_is ws name c g h = name_at ws name c h.place g h.within h.wire
 
 pub name_back : (ws : List Wire) (name : List ℕ) (c : ℕ) → code_named name ws ≡ Some c → Named ws name c

@@ -98,7 +98,7 @@ module _ (text a b : List ℕ) (ws : List Wire) (ls : List Line) (says : Says te
   taken ca cb na nb =
       let head : header_read text a b ≡ Some (record { code_a = ca; code_b = cb; body = length (header_of ws) }) =
       rw says.written (header-there ws (lines_text ls) says.wires says.some says.few a b
-      ∙ rw (name_is ws a ca says.wires na, name_is ws b cb says.wires nb) (both_named ca cb (length (header_of ws)))) in
+      ∙ rw ((name_is ws a ca says.wires na).0, (name_is ws b cb says.wires nb).0) (both_named ca cb (length (header_of ws)))) in
       let wires : wires_in text ≡ ws = rw says.written (wires-in ws (lines_text ls) says.wires says.some says.few) in
       let left : drop (length (header_of ws)) text ≡ lines_text ls = rw says.written (header-left ws (lines_text ls)) in
       let (said, place) = lines-read (has_code ws) ls started (lines_are ws false ls says.lines) in
