@@ -13,7 +13,7 @@ use Rattle.vcd_read.specs.declared.scanning.Header.{Header}
 use Rattle.vcd_read.specs.declared.scanning.Scanned.{Scanned}
 use Rattle.vcd_lines.specs.declared.body.Said.{Said}
 use Rattle.vcd_lines.specs.declared.body.Said.TheVariants.{NoLine, TimeLine, ValueLine}
-use Rattle.vcd_lines.specs.Body.{started, taken_of, said_of}
+use Rattle.vcd_lines.specs.Body.{started, at_start, taken_of, said_of}
 use Rattle.vcd_read.specs.Wires.{starts, wires_of, wires_end, twice_of, has_code, code_named}
 
 -- ---- the times ----
@@ -103,7 +103,7 @@ refused_by n = record { number = n; code_a = 0; code_b = 0; body = 0; times = no
 -- whole text. A text inside ends with a line's end.
 unfoldable pub judged : Header → Checked → Scanned
 judged h x =
-    pick (eqb x.reading.place 0)
+    pick (at_start x.reading.place)
     (pick x.times.late (refused_by 11)
     (record { number = 0; code_a = h.code_a; code_b = h.code_b; body = h.body; times = x.times }))
     (refused_by 10)

@@ -5,7 +5,6 @@ ghost use Rattle.vcd_read.specs.Scan.{no_header, header_read, refused_by, judged
 use crate::checking::{Checked, Times, check_from};
 use crate::named::{code_named, fill_codes, twice};
 use crate::wires::{starts_at, wires_at};
-use vcd_lines::LINE_START;
 
 // A header in the subset: the codes of the two wires that are named, and where the lines after it begin.
 #[derive(Clone, Copy)]
@@ -89,7 +88,7 @@ fn refuse(number: u8) -> Scanned
 fn judge(header: Header, checked: Checked) -> Scanned
     ensures { result ≡ judged header checked }
 {
-    if checked.reading.place == LINE_START {
+    if checked.reading.is_at_line_start() {
         let times = checked.times;
         if times.late {
             return refuse(11);

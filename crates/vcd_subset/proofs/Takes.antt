@@ -4,9 +4,9 @@ use mathlib.Core.Path.{◌≡◌, refl, sym, ◌∙◌, ap}
 use mathlib.Core.Bool.{Bool, true, false, ◌&&◌, ◌||◌, true≢false}
 use mathlib.Core.List.{List, [], ◌∷◌, ◌++◌}
 use native.Mathlib.Omega.{arith}
-use lib.Dec.{eqb, leb}
+use lib.Dec.{leb}
 use lib.ListN.{length, drop}
-use borrow.Author.Tests.{ne_eqb, eqb-true, lt-leb, leb-false}
+use borrow.Author.Tests.{ne_eqb, lt-leb, leb-false}
 use Rattle.format.specs.Pick.{pick}
 use Rattle.vcd_text.specs.Header.{Wire, header_of}
 use Rattle.vcd_text.specs.Lines.{Line, lines_text, times_of, RisesFrom}
@@ -14,14 +14,15 @@ use Rattle.vcd_text.specs.Lines.Line.{Time, Value}
 use Rattle.vcd_read.specs.declared.checking.Checked.{Checked}
 use Rattle.vcd_read.specs.declared.checking.Times.{Times}
 use Rattle.vcd_read.specs.declared.scanning.Scanned.{Scanned}
-use Rattle.vcd_lines.specs.Body.{started, read_all, lines_read}
+use Rattle.vcd_lines.specs.declared.body.Place.TheVariants.{LineStart}
+use Rattle.vcd_lines.specs.Body.{started, at_start, read_all, lines_read}
 use Rattle.vcd_read.specs.Wires.{has_code, code_named}
 use Rattle.vcd_read.specs.Scan.{wires_in, header_read, body_checked, no_times, time_added, times_from, unchecked, refused_by, judged, scan_of}
 use Rattle.vcd_lines.proofs.Laws.Reads.{readable, lines-read}
 use Rattle.vcd_read.proofs.Laws.Checks.{checked_reads}
 use Rattle.vcd_subset.specs.Subset.{Named, GoodLines, Says}
 use Rattle.vcd_subset.proofs.Header.{code_is, code_back, name_is, wires-in, header-left, header-there, header_back}
-use Rattle.vcd_subset.proofs.Body.{body_back}
+use Rattle.vcd_subset.proofs.Body.{start_only, body_back}
 
 -- ---- the lines ----
 
@@ -98,7 +99,7 @@ module _ (text a b : List ℕ) (ws : List Wire) (ls : List Line) (says : Says te
       ∙ rw (ea, eb, ne_eqb ca 0 (λ (z : ca ≡ 0). omega arith), ne_eqb cb 0 (λ (z : cb ≡ 0). omega arith))) in
       let wires : wires_in text ≡ ws = rw says.written (wires-in ws (lines_text ls) says.wires says.some says.few) in
       let left : drop (length (header_of ws)) text ≡ lines_text ls = rw says.written (header-left ws (lines_text ls)) in
-      let (said, place) = lines-read (has_code ws) ls started (lines_are ws false ls says.lines) in
+      let (said, place) = lines-read (has_code ws) ls false (lines_are ws false ls says.lines) in
       rw (head, wires, left, checked_reads (has_code ws) unchecked (lines_text ls), said, place)
 
 -- ---- what is taken ----
@@ -111,13 +112,13 @@ record Read (text a b : List ℕ) : Type 0 where
   first : Named wires a (code_named a wires)
   second : Named wires b (code_named b wires)
 
-read_back : (text a b : List ℕ) → (header_read text a b).inside ≡ true → (body_checked text (header_read text a b).body).reading.place ≡ 0 → Read text a b
+read_back : (text a b : List ℕ) → (header_read text a b).inside ≡ true → (body_checked text (header_read text a b).body).reading.place ≡ LineStart → Read text a b
 read_back text a b h e =
     let found = header_back text a b h in
     let ws = wires_in text in
     let bs = drop (header_read text a b).body text in
-    let place : (read_all (has_code ws) started bs).place ≡ 0 = ap (λ (x : Checked). x.reading.place) (sym (checked_reads (has_code ws) unchecked bs)) ∙ e in
-    let (text_is, good) = body_back (has_code ws) bs started refl place in
+    let place : (read_all (has_code ws) started bs).place ≡ LineStart = ap (λ (x : Checked). x.reading.place) (sym (checked_reads (has_code ws) unchecked bs)) ∙ e in
+    let (text_is, good) = body_back (has_code ws) bs false place in
     record {
       wires = ws;
       lines = lines_read (has_code ws) started bs;
@@ -142,12 +143,12 @@ module _ (text a b : List ℕ) where
 
   either_way : {A : Type 0} → Inside A → (scan_of text a b ≡ refused_by 10 → A) → A
   unfolding scan_of judged pick
-  either_way {A} read other = go (header_read text a b).inside refl (eqb (body_checked text (header_read text a b).body).reading.place 0) refl
+  either_way {A} read other = go (header_read text a b).inside refl (at_start (body_checked text (header_read text a b).body).reading.place) refl
     where
-      go : (t : Bool) → (header_read text a b).inside ≡ t → (p : Bool) → eqb (body_checked text (header_read text a b).body).reading.place 0 ≡ p → A
+      go : (t : Bool) → (header_read text a b).inside ≡ t → (p : Bool) → at_start (body_checked text (header_read text a b).body).reading.place ≡ p → A
       go false e p q = other (rw e)
       go true e false q = other (rw (e, q))
-      go true e true q = let r = read_back text a b e (eqb-true _ 0 q) in read r.wires r.lines _ _ r.says r.first r.second
+      go true e true q = let r = read_back text a b e (start_only _ q) in read r.wires r.lines _ _ r.says r.first r.second
 
   not-ten : (t : Bool) (s : Scanned) → s.number ≡ 0 → pick t (refused_by 11) s ≡ refused_by 10 → ⊥
   unfolding pick

@@ -10,6 +10,7 @@ use Rattle.format.specs.Pick.{pick}
 use Rattle.format.proofs.Laws.Pick.{pick_yes, pick_all}
 use Rattle.text.specs.Bytes.{bytes_of}
 use Rattle.vcd_text.specs.Header.{line_of}
+use Rattle.vcd_lines.specs.Body.{at_start}
 use Rattle.vcd_read.specs.Wires.{starts, wires_of, twice_of, code_named, filled}
 use Rattle.vcd_read.specs.declared.checking.Checked.{Checked}
 use Rattle.vcd_read.specs.declared.scanning.Header.{Header}
@@ -87,5 +88,5 @@ is_inside text a b h x codes eh i ec ex =
 pub judged_body : (h : Header) (x : Checked) → (judged h x).body ≤ h.body
 unfolding judged
 judged_body h x =
-    pick_all (λ (r : Scanned). r.body ≤ h.body) (eqb x.reading.place 0) _ _
+    pick_all (λ (r : Scanned). r.body ≤ h.body) (at_start x.reading.place) _ _
     (pick_all (λ (r : Scanned). r.body ≤ h.body) x.times.late _ _ (omega arith) (omega arith)) (omega arith)

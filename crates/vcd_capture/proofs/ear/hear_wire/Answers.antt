@@ -15,7 +15,7 @@ pub loop-i-init : goal.loop-i-init
 loop-i-init c =
     let x = c.args in
     let start = c.requires.0 in
-    (omega arith, rw c.start-reading.ensures (omega arith), omega arith, omega arith, refl, rw (c.start-reading.ensures, c.drop_assembly.ensures) (left_all _ _ _))
+    (omega arith, rw c.start-reading.ensures tt, omega arith, omega arith, refl, rw (c.start-reading.ensures, c.drop_assembly.ensures) (left_all _ _ _))
 
 pub hear_said-step-requires : goal.hear_said-step-requires
 hear_said-step-requires c = (c.loop-i.invariant.2, c.loop-i.invariant.3)
@@ -34,7 +34,7 @@ loop-i-preserved c =
     let told = log_bytes (heard_said x.period x.setting c.loop-i.ear (said_of c.loop-i.reading b)) in
     let place = m.puts.ends in (
       omega arith,
-      rw c.take-reading.ensures (time_within c.loop-i.reading b true c.loop-i.invariant.1),
+      rw c.take-reading.ensures (time_within c.loop-i.reading b true),
       rw m.ear w.0,
       rw m.ear (omega (arith, w.1)),
       puts_length {x = told} m.puts ∙ c.loop-i.invariant.4,

@@ -5,12 +5,12 @@ use Rattle.vcd_read.proofs.scanning.judge.Goals as goal
 
 pub returns-then-times : goal.returns-then-times
 unfolding judged
-returns-then-times c = simp c.refuse.ensures (search steps)
+returns-then-times c = simp (c.refuse.ensures, ← c.is_at_line_start.ensures) (search steps)
 
-pub returns-then-checked-eq-LINE_START : goal.returns-then-checked-eq-LINE_START
+pub returns-then-is_at_line_start : goal.returns-then-is_at_line_start
 unfolding judged
-returns-then-checked-eq-LINE_START c = search steps
+returns-then-is_at_line_start c = simp (← c.is_at_line_start.ensures) (search steps)
 
 pub returns : goal.returns
 unfolding judged
-returns c = simp c.refuse-2.ensures (search steps)
+returns c = simp (c.refuse-2.ensures, ← c.is_at_line_start.ensures) (search steps)
