@@ -9,7 +9,7 @@ mod said;
 ghost use Rattle.replay_text.specs.Lines.{Within};
 ghost use Rattle.capture.specs.Said.{Lent};
 
-use arguments::{Numbers, argument, read_numbers};
+use arguments::{argument, read_numbers};
 use said::put_said;
 use std::env::Env;
 use std::io::Read;
@@ -81,27 +81,23 @@ fn run(
 )
     requires { Lent log_a.old log_b.old space.old }
 {
-    let numbers = read_numbers(rt, name_a);
-    match numbers {
-        Numbers::Wrong => {
-            let _ = rt.write_all(b"usage\n");
-        }
-        Numbers::Read(asked) => {
-            let length_a = argument(rt, 4, name_a);
-            let length_b = argument(rt, 5, name_b);
-            show(
-                rt,
-                input,
-                asked,
-                text,
-                &name_a[..length_a],
-                &name_b[..length_b],
-                log_a,
-                log_b,
-                space,
-            );
-        }
-    }
+    let Some(asked) = read_numbers(rt, name_a) else {
+        let _ = rt.write_all(b"usage\n");
+        return;
+    };
+    let length_a = argument(rt, 4, name_a);
+    let length_b = argument(rt, 5, name_b);
+    show(
+        rt,
+        input,
+        asked,
+        text,
+        &name_a[..length_a],
+        &name_b[..length_b],
+        log_a,
+        log_b,
+        space,
+    );
 }
 
 fn lend(
