@@ -7,7 +7,7 @@ use native.Mathlib.Omega.{arith}
 use lib.ListN.{length, take, drop, get_or, length-append, length-take}
 use lib.Seq.{drop-cons}
 use borrow.Author.Tests.{ne_eqb}
-use Rattle.std.specs.Prelude.{Ok, Err}
+use Rattle.std.specs.Prelude.{Option, Some, None, Ok, Err}
 use Rattle.format.specs.Pick.{pick}
 use Rattle.text.specs.Bytes.{bytes_of}
 use Rattle.text.specs.Puts.{Puts}
@@ -26,22 +26,22 @@ use Rattle.capture.specs.Said.{refused_text, printed_of}
 
 -- ---- a word ----
 
-pub spelled_none : (w : List ℕ) → length w ≡ 0 → spelled w ≡ 4000000001
+pub spelled_none : (w : List ℕ) → length w ≡ 0 → spelled w ≡ None
 unfolding spelled
 spelled_none [] h = refl
 spelled_none (b ∷ w) h = absurd (omega arith)
 
-pub spelled_some : (w : List ℕ) → (length w ≡ 0 → ⊥) → spelled w ≡ number_from 0 w
+pub spelled_some : (w : List ℕ) → (length w ≡ 0 → ⊥) → spelled w ≡ number_from (Some 0) w
 unfolding spelled
 spelled_some [] h = absurd (h refl)
 spelled_some (b ∷ w) h = refl
 
-pub spelled_next : (w : List ℕ) (n i : ℕ) → i < length w
+pub spelled_next : (w : List ℕ) (n : Option ℕ) (i : ℕ) → i < length w
     → number_from n (drop i w) ≡ number_from (number_after n (get_or w i 0)) (drop (i + 1) w)
 unfolding number_from
 spelled_next w n i h = rw (drop-cons w i 0 h, add-one)
 
-pub spelled_end : (w : List ℕ) (n i : ℕ) → length w ≤ i → number_from n (drop i w) ≡ n
+pub spelled_end : (w : List ℕ) (n : Option ℕ) (i : ℕ) → length w ≤ i → number_from n (drop i w) ≡ n
 unfolding number_from
 spelled_end [] n zero h = refl
 spelled_end [] n (suc i) h = refl

@@ -1,17 +1,15 @@
 -- The numbers among the arguments: in decimal and up to 255, ACR7 0 or 1. Assumes nothing.
-use Rattle.std.specs.Prelude.{ℕ, List, [], ◌∷◌, eqb, ltb}
+use Rattle.std.specs.Prelude.{ℕ, ◌||◌, List, [], ◌∷◌, Option, Some, None, eqb, ltb}
 use Rattle.format.specs.Pick.{pick}
 use Rattle.text.specs.Numbers.{number_from}
-use Rattle.capture.specs.declared.arguments.Numbers.{Numbers}
-use Rattle.capture.specs.declared.arguments.Numbers.TheVariants.{Wrong, Read}
+use Rattle.vcd_capture.specs.declared.capturing.Asked.{Asked}
 
--- the number that a word spells; 4,000,000,001 stands for none, as a word with no digit spells none
-unfoldable pub spelled : List ℕ → ℕ
-spelled [] = 4000000001
-spelled (b ∷ bs) = number_from 0 (b ∷ bs)
+-- the number that a word spells, as a word with no digit spells none
+unfoldable pub spelled : List ℕ → Option ℕ
+spelled [] = None
+spelled (b ∷ bs) = number_from (Some 0) (b ∷ bs)
 
-unfoldable pub asked_of : ℕ → ℕ → ℕ → Numbers
+unfoldable pub asked_of : ℕ → ℕ → ℕ → Option Asked
 asked_of mr1 acr7 code =
-    pick (ltb 255 mr1) Wrong
-    (pick (ltb 1 acr7) Wrong
-    (pick (ltb 255 code) Wrong (Read (record { mr1 = mr1; acr7 = eqb acr7 1; code = code }))))
+    pick (ltb 255 mr1 || (ltb 1 acr7 || ltb 255 code)) None
+    (Some (record { mr1 = mr1; acr7 = eqb acr7 1; code = code }))

@@ -8,7 +8,7 @@ mod said;
 
 ghost use Rattle.replay_text.specs.Lines.{Within};
 
-use arguments::{Numbers, argument, read_numbers};
+use arguments::{argument, read_numbers};
 use said::put_said;
 use std::env::Env;
 use std::io::Read;
@@ -78,13 +78,11 @@ fn show(rt: &(impl Print + Env), input: &mut impl Read, asked: Asked, room: &mut
 
 // Arguments are looked at first: where they cannot be read, the text is not.
 fn run(rt: &(impl Print + Env), input: &mut impl Read, room: &mut Room) {
-    let numbers = read_numbers(rt, &mut room.name_a);
-    match numbers {
-        Numbers::Wrong => {
-            let _ = rt.write_all(b"usage\n");
-        }
-        Numbers::Read(asked) => show(rt, input, asked, room),
-    }
+    let Some(asked) = read_numbers(rt, &mut room.name_a) else {
+        let _ = rt.write_all(b"usage\n");
+        return;
+    };
+    show(rt, input, asked, room);
 }
 
 fn main(rt: HostRuntime) {

@@ -4,12 +4,13 @@ use mathlib.Core.Path.{◌≡◌}
 use mathlib.Core.Bool.{◌||◌, false≢true}
 use native.Mathlib.Omega.{arith}
 use lib.Dec.{eqb, ltb}
+use Rattle.std.proofs.Common.{Some}
 use Rattle.format.specs.Pick.{pick}
 use Rattle.events.specs.declared.events.Event.TheVariants.{Write, Acknowledge}
 use Rattle.replay_script.specs.declared.lines.Line.TheVariants.{Ticks, One}
 use Rattle.replay_script.specs.Bytes.{blank_of}
 use Rattle.replay_script.specs.Reading.{words_after}
-use Rattle.replay_script.specs.Lines.{told_alone, told_with_one, told_with_two}
+use Rattle.replay_script.specs.Lines.{told_alone, told_with_one, byte_of, told_with_bytes, told_with_two}
 use Rattle.replay_script.specs.Place.{line_after}
 
 -- ---- a line, byte by byte ----
@@ -29,13 +30,13 @@ unfolding told_alone pick
 no_capital_ack h = let z : ◌≡◌ {A = ℕ} 0 1 = cc in omega arith
 
 -- `tick 4000000001`
-no_count_above_most : Ticks (record { 0 = 4000000001 }) ≡ told_with_one 0x1_74_69_63_6b 4000000001 → ⊥
+no_count_above_most : Ticks (record { 0 = 4000000001 }) ≡ told_with_one 0x1_74_69_63_6b (Some 4000000001) → ⊥
 unfolding told_with_one pick
 no_count_above_most h = let z : ◌≡◌ {A = ℕ} 0 1 = cc in omega arith
 
 -- `write 12 256`, whatever is made of the 256
-no_byte256_written : (byte : ℕ) → One (Write 12 byte) ≡ told_with_two 0x1_77_72_69_74_65 12 256 → ⊥
-unfolding told_with_two pick
+no_byte256_written : (byte : ℕ) → One (Write 12 byte) ≡ told_with_two 0x1_77_72_69_74_65 (Some 12) (Some 256) → ⊥
+unfolding told_with_bytes byte_of pick
 no_byte256_written byte h = let z : ◌≡◌ {A = ℕ} 0 1 = cc in omega arith
 
 -- ---- which line it is ----

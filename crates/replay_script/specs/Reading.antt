@@ -1,12 +1,12 @@
 -- What is known of a line, byte by byte. Assumes nothing.
-use Rattle.std.specs.Prelude.{ℕ, ◌+◌, ◌*◌, Bool, true, false, List, [], ◌∷◌, eqb, ltb}
+use Rattle.std.specs.Prelude.{ℕ, ◌+◌, ◌*◌, Bool, true, false, List, [], ◌∷◌, Option, Some, eqb, ltb}
 use Rattle.format.specs.Pick.{pick}
 use Rattle.replay_script.specs.declared.reading.Reading.{Reading}
 use Rattle.text.specs.Numbers.{number_after}
 use Rattle.replay_script.specs.Bytes.{blank_of}
 
 abbrev pub started : Reading
-started = record { inside = false; comment = false; words = 0; name = 1; first = 0; second = 0 }
+started = record { inside = false; comment = false; words = 0; name = 1; first = Some 0; second = Some 0 }
 
 -- The first word is a number in base 256, after a 1: no two words of at most five bytes have the same. From the sixth
 -- byte on it is 2 ^ 48.
@@ -43,11 +43,11 @@ with_name n r =
       second = r.second;
     }
 
-abbrev pub with_first : ℕ → Reading → Reading
+abbrev pub with_first : Option ℕ → Reading → Reading
 with_first n r =
     record { inside = r.inside; comment = r.comment; words = r.words; name = r.name; first = n; second = r.second }
 
-abbrev pub with_second : ℕ → Reading → Reading
+abbrev pub with_second : Option ℕ → Reading → Reading
 with_second n r =
     record { inside = r.inside; comment = r.comment; words = r.words; name = r.name; first = r.first; second = n }
 

@@ -1,6 +1,6 @@
 // What a line of a script says.
 ghost use Rattle.std.specs.Prelude.{◌≡◌};
-ghost use Rattle.replay_script.specs.Lines.{told_alone, told_with_byte, told_with_one, told_with_two, told_of};
+ghost use Rattle.replay_script.specs.Lines.{told_alone, told_with_byte, told_with_one, byte_of, told_with_two, told_of};
 
 use crate::reading::Reading;
 use events::Event;
@@ -59,35 +59,39 @@ fn tell_with_byte(name: u64, byte: u8) -> Line
 }
 
 // `read N`, `pins B` or `tick COUNT`
-fn tell_with_one(name: u64, first: u64) -> Line
+fn tell_with_one(name: u64, first: Option<u64>) -> Line
     ensures { result ≡ told_with_one name first }
 {
+    let Some(number) = first else {
+        return Line::Wrong;
+    };
     if name == TICK {
-        if first <= MOST {
-            return Line::Ticks(Ticks(first));
+        if number <= MOST {
+            return Line::Ticks(Ticks(number));
         }
         return Line::Wrong;
     }
-    if first <= 255 {
-        return tell_with_byte(name, first as u8);
+    match u8::try_from(number) {
+        Ok(byte) => tell_with_byte(name, byte),
+        Err(_) => Line::Wrong,
     }
-    Line::Wrong
+}
+
+// A number up to 255.
+fn byte_of(number: Option<u64>) -> Option<u8>
+    ensures { result ≡ byte_of number }
+{
+    u8::try_from(number?).ok()
 }
 
 // `write N B`
-fn tell_with_two(name: u64, first: u64, second: u64) -> Line
+fn tell_with_two(name: u64, first: Option<u64>, second: Option<u64>) -> Line
     ensures { result ≡ told_with_two name first second }
 {
-    if name == WRITE {
-        if first <= 255 {
-            if second <= 255 {
-                return Line::One(Event::Write(first as u8, second as u8));
-            }
-            return Line::Wrong;
-        }
-        return Line::Wrong;
+    match (byte_of(first), byte_of(second)) {
+        (Some(register), Some(byte)) if name == WRITE => Line::One(Event::Write(register, byte)),
+        _ => Line::Wrong,
     }
-    Line::Wrong
 }
 
 // What a line says of which all bytes are read.

@@ -28,10 +28,7 @@ pub fn first_place() -> Place
 fn line_after(line: u64) -> u64
     ensures { result ≡ line_after line }
 {
-    if line < u64::MAX {
-        return line + 1;
-    }
-    line
+    line.saturating_add(1)
 }
 
 // After a line's end.

@@ -17,8 +17,8 @@ pub struct Reading {
     // the bytes of the first word after a 1, in base 256; LONG where there are more than five
     pub name: u64,
     // the numbers that the second word and the third spell, as `number_after` has them
-    pub first: u64,
-    pub second: u64,
+    pub first: Option<u64>,
+    pub second: Option<u64>,
 }
 
 // A name of fewer than five bytes is below this.
@@ -36,8 +36,8 @@ pub fn start() -> Reading
         comment: false,
         words: 0,
         name: 1,
-        first: 0,
-        second: 0,
+        first: Some(0),
+        second: Some(0),
     }
 }
 
@@ -45,7 +45,7 @@ pub fn start() -> Reading
 fn is_blank(byte: u8) -> bool
     ensures { result ≡ blank_of byte }
 {
-    (byte == 32) | ((byte == 9) | (byte == 13))
+    matches!(byte, b' ' | b'\t' | b'\r')
 }
 
 // The first word's name, with one byte more.
@@ -69,13 +69,11 @@ fn comment_after(reading: Reading, byte: u8) -> bool
 }
 
 // How many words have begun, with one more.
+// Kept: (d) `min(4)` would take 5 to 4, where `words_after` says that it stays.
 fn words_after(words: u8) -> u8
     ensures { result ≡ words_after words }
 {
-    if words < 4 {
-        return words + 1;
-    }
-    words
+    if words < 4 { words + 1 } else { words }
 }
 
 // A word begins with this byte.

@@ -6,6 +6,7 @@ use mathlib.Core.List.{List, [], ◌∷◌}
 use native.Mathlib.Omega.{arith}
 use lib.Dec.{ltb}
 use lib.ListN.{get_or}
+use Rattle.std.proofs.Common.{Some}
 use Rattle.format.specs.Pick.{pick}
 use Rattle.text.specs.Decimal.{decimal_of}
 use Rattle.text.specs.Numbers.{digit, value_after}
@@ -20,6 +21,6 @@ no_sign_is_digit : ((b : ℕ) → (ltb 42 b && ltb b 58) ≡ digit b) → ⊥
 no_sign_is_digit h = true≢false (h 43)
 
 -- 40,000,000,000 is no 4,000,000,000
-no_digits_dropped : 4000000000 ≡ value_after 4000000000 48 → ⊥
+no_digits_dropped : Some 4000000000 ≡ value_after 4000000000 48 → ⊥
 unfolding value_after pick
-no_digits_dropped = omega arith
+no_digits_dropped h = cc

@@ -6,6 +6,7 @@ use mathlib.Core.List.{List, ◌∷◌, ◌++◌}
 use native.Mathlib.Omega.{arith}
 use Rattle.format.specs.Pick.{pick}
 use Rattle.text.specs.Bytes.{bytes_of}
+use Rattle.vcd_lines.specs.declared.body.Place.TheVariants.{LineStart, Hash}
 use Rattle.vcd_lines.specs.declared.body.Reading.{Reading}
 use Rattle.vcd_lines.specs.declared.body.Said.TheVariants.{NoLine, TimeLine, ValueLine}
 use Rattle.vcd_lines.specs.Body.{started, begun, first_digit, next_digit, must_end, coded, taken_of, said_of, read_all}
@@ -17,7 +18,9 @@ after bs = read_all (λ (b : ℕ). true) started bs
 -- one that takes no byte, and one that never says a line
 no_byte_lost : ((r : Reading) (b : ℕ) (known : Bool) → r ≡ taken_of r b known) → ⊥
 unfolding taken_of begun pick
-no_byte_lost h = omega (arith, ap (λ (r : Reading). r.place) (h started 35 true))
+no_byte_lost h =
+    let place : LineStart ≡ Hash = ap (λ (r : Reading). r.place) (h started 35 true) in
+    cc
 
 no_never_says : ((r : Reading) (b : ℕ) → NoLine ≡ said_of r b) → ⊥
 unfolding read_all taken_of begun first_digit next_digit must_end coded said_of bytes_of pick

@@ -1,76 +1,76 @@
 -- The lines after the header, byte by byte. Order 7: "then times up to 4,000,000,000 ns, no leading zeros, each with any
--- value lines of those codes". The places: 0 the start of a line, 1 after `#`, 2 in a time that more digits may follow, 3
--- after the time `0`, which none may follow, 4 after a level, 5 after a code, 6 the text is outside. Assumes nothing.
+-- value lines of those codes". Assumes nothing.
 use Rattle.std.specs.Prelude.{ℕ, ◌+◌, ◌-◌, ◌*◌, Bool, true, false, ◌&&◌, ◌||◌, List, [], ◌∷◌, ◌++◌, eqb, leb}
 use Rattle.format.specs.Pick.{pick}
 use Rattle.text.specs.Numbers.{digit}
 use Rattle.vcd_text.specs.Lines.{Line}
 use Rattle.vcd_text.specs.Lines.Line.{Time, Value}
+use Rattle.vcd_lines.specs.declared.body.Place.{Place}
+use Rattle.vcd_lines.specs.declared.body.Place.TheVariants.{LineStart, Hash, Digits, Zero, Level, Code, Outside}
 use Rattle.vcd_lines.specs.declared.body.Reading.{Reading}
 use Rattle.vcd_lines.specs.declared.body.Said.{Said}
 use Rattle.vcd_lines.specs.declared.body.Said.TheVariants.{NoLine, TimeLine, ValueLine}
 
 abbrev pub started : Reading
-started = record { place = 0; timed = false; time = 0; level = false; code = 0 }
+started = record { place = LineStart; timed = false }
 
-abbrev pub placed : Reading → ℕ → Reading
-placed r p = record { place = p; timed = r.timed; time = r.time; level = r.level; code = r.code }
+-- no line has begun
+abbrev pub at_start : Place → Bool
+at_start LineStart = true
+at_start p = false
 
 -- a line begins: 35 is #, 48 and 49 are 0 and 1; a value line belongs to a time
-unfoldable pub begun : Reading → ℕ → Reading
-begun r b =
-    pick (eqb b 35) (placed r 1)
-    (pick (r.timed && (eqb b 48 || eqb b 49))
-    (record { place = 4; timed = r.timed; time = r.time; level = eqb b 49; code = r.code })
-    (placed r 6))
-
-abbrev pub timing : Reading → ℕ → ℕ → Reading
-timing r p t = record { place = p; timed = r.timed; time = t; level = r.level; code = r.code }
+unfoldable pub begun : ℕ → Bool → Place
+begun b timed = pick (eqb b 35) Hash (pick (timed && (eqb b 48 || eqb b 49)) (Level (eqb b 49)) Outside)
 
 -- the first digit of a time: "no leading zeros"
-unfoldable pub first_digit : Reading → ℕ → Reading
-first_digit r b = pick (eqb b 48) (timing r 3 0) (pick (digit b) (timing r 2 (b - 48)) (placed r 6))
-
--- a line ends, and with it a time has come
-abbrev pub time_ended : Reading → Reading
-time_ended r = record { place = 0; timed = true; time = r.time; level = r.level; code = r.code }
-
--- one digit more: "times up to 4,000,000,000 ns"
-unfoldable pub next_digit : Reading → ℕ → Reading
-next_digit r b =
-    pick (digit b)
-    (pick (leb r.time 400000000)
-    (pick (leb (r.time * 10 + (b - 48)) 4000000000) (timing r 2 (r.time * 10 + (b - 48))) (placed r 6))
-    (placed r 6))
-    (pick (eqb b 10) (time_ended r) (placed r 6))
+unfoldable pub first_digit : ℕ → Place
+first_digit b = pick (eqb b 48) Zero (pick (digit b) (Digits (b - 48)) Outside)
 
 -- a line's end must follow
-unfoldable pub must_end : Reading → Reading → ℕ → Reading
-must_end r then b = pick (eqb b 10) then (placed r 6)
+unfoldable pub must_end : ℕ → Place
+must_end b = pick (eqb b 10) LineStart Outside
+
+-- one digit more: "times up to 4,000,000,000 ns"
+unfoldable pub next_digit : ℕ → ℕ → Place
+next_digit t b =
+    pick (digit b)
+    (pick (leb t 400000000) (pick (leb (t * 10 + (b - 48)) 4000000000) (Digits (t * 10 + (b - 48))) Outside) Outside)
+    (must_end b)
 
 -- a code of the header must follow
-unfoldable pub coded : Reading → ℕ → Bool → Reading
-coded r b known =
-    pick known (record { place = 5; timed = r.timed; time = r.time; level = r.level; code = b }) (placed r 6)
+unfoldable pub coded : Bool → ℕ → Bool → Place
+coded v b known = pick known (Code v b) Outside
 
--- one byte more; whether it is a code of the header is asked of the header
+-- the place after one byte more; whether it is a code of the header is asked of the header
+abbrev pub place_after : Place → Bool → ℕ → Bool → Place
+place_after LineStart timed b known = begun b timed
+place_after Hash timed b known = first_digit b
+place_after (Digits t) timed b known = next_digit t b
+place_after Zero timed b known = must_end b
+place_after (Level v) timed b known = coded v b known
+place_after (Code v c) timed b known = must_end b
+place_after Outside timed b known = Outside
+
+-- a time's line, which its end ends; with that a time has come
+abbrev pub in_time : Place → Bool
+in_time (Digits t) = true
+in_time Zero = true
+in_time p = false
+
 unfoldable pub taken_of : Reading → ℕ → Bool → Reading
 taken_of r b known =
-    pick (eqb r.place 0) (begun r b)
-    (pick (eqb r.place 1) (first_digit r b)
-    (pick (eqb r.place 2) (next_digit r b)
-    (pick (eqb r.place 3) (must_end r (time_ended r) b)
-    (pick (eqb r.place 4) (coded r b known)
-    (pick (eqb r.place 5) (must_end r (placed r 0) b)
-    (placed r 6))))))
+    record { place = place_after r.place r.timed b known; timed = r.timed || (in_time r.place && eqb b 10) }
 
--- the line that a byte ends
+-- the line that ends in a place, and the one that a byte ends
+abbrev pub line_at : Place → Said
+line_at (Digits t) = TimeLine t
+line_at Zero = TimeLine 0
+line_at (Code v c) = ValueLine c v
+line_at p = NoLine
+
 unfoldable pub said_of : Reading → ℕ → Said
-said_of r b =
-    pick (eqb b 10)
-    (pick (eqb r.place 2 || eqb r.place 3) (TimeLine r.time)
-    (pick (eqb r.place 5) (ValueLine r.code r.level) NoLine))
-    NoLine
+said_of r b = pick (eqb b 10) (line_at r.place) NoLine
 
 abbrev pub line_of : Said → List Line
 line_of NoLine = []

@@ -1,42 +1,43 @@
 // The lines after the header, byte by byte: "then times up to 4,000,000,000 ns, no leading zeros, each with any value lines of
 // those codes".
 ghost use Rattle.std.specs.Prelude.{◌≡◌};
-ghost use Rattle.vcd_lines.specs.Body.{started, placed, begun, timing, first_digit, time_ended, next_digit};
-ghost use Rattle.vcd_lines.specs.Body.{must_end, coded, taken_of, said_of};
+ghost use Rattle.vcd_lines.specs.Body.{started, at_start, begun, first_digit, next_digit, must_end};
+ghost use Rattle.vcd_lines.specs.Body.{coded, in_time, taken_of, said_of};
 
 use text::{digit_value, is_digit};
 
-// Where in a line the last byte stands.
-pub const LINE_START: u8 = 0;
-
-// after `#`
-const HASH: u8 = 1;
-
-// in a time that more digits may follow
-const TIME: u8 = 2;
-
-// after the time `0`, which none may follow
-const ZERO: u8 = 3;
-
-// after a level
-const LEVEL: u8 = 4;
-
-// after a code
-const CODE: u8 = 5;
-
-// the text is outside the subset
-const OUTSIDE: u8 = 6;
+// Where in a line the last byte stands, and what is known of the line there.
+#[derive(Clone, Copy)]
+pub enum Place {
+    LineStart,
+    // after `#`
+    Hash,
+    // in a time that more digits may follow: the time so far
+    Digits(u32),
+    // after the time `0`, which none may follow
+    Zero,
+    // after a level
+    Level(bool),
+    // after a level and a code
+    Code(bool, u8),
+    // the text is outside the subset
+    Outside,
+}
 
 #[derive(Clone, Copy)]
 pub struct Reading {
-    pub place: u8,
+    pub place: Place,
     // a time has come
     pub timed: bool,
-    // the time so far
-    pub time: u32,
-    // the value line's
-    pub level: bool,
-    pub code: u8,
+}
+
+impl Reading {
+    // No line has begun that has not ended.
+    pub fn is_at_line_start(self) -> bool
+        ensures { result ≡ at_start self.place }
+    {
+        matches!(self.place, Place::LineStart)
+    }
 }
 
 // The line that a byte ends.
@@ -52,136 +53,109 @@ pub fn start() -> Reading
     ensures { result ≡ started }
 {
     Reading {
-        place: LINE_START,
+        place: Place::LineStart,
         timed: false,
-        time: 0,
-        level: false,
-        code: 0,
     }
-}
-
-fn place_at(reading: Reading, place: u8) -> Reading
-    ensures { result ≡ placed reading place }
-{
-    let mut next = reading;
-    next.place = place;
-    next
-}
-
-fn time_at(reading: Reading, place: u8, time: u32) -> Reading
-    ensures { result ≡ timing reading place time }
-{
-    let mut next = reading;
-    next.place = place;
-    next.time = time;
-    next
 }
 
 // A line begins. A value line belongs to a time: "each with any value lines".
-fn begin(reading: Reading, byte: u8) -> Reading
-    ensures { result ≡ begun reading byte }
+fn begin(byte: u8, timed: bool) -> Place
+    ensures { result ≡ begun byte timed }
 {
-    if byte == 35 {
-        return place_at(reading, HASH);
+    if byte == b'#' {
+        Place::Hash
+    } else if timed & ((byte == b'0') | (byte == b'1')) {
+        Place::Level(byte == b'1')
+    } else {
+        Place::Outside
     }
-    if reading.timed & ((byte == 48) | (byte == 49)) {
-        let mut next = reading;
-        next.place = LEVEL;
-        next.level = byte == 49;
-        return next;
-    }
-    place_at(reading, OUTSIDE)
 }
 
 // "no leading zeros"
-fn first_digit(reading: Reading, byte: u8) -> Reading
-    ensures { result ≡ first_digit reading byte }
+fn first_digit(byte: u8) -> Place
+    ensures { result ≡ first_digit byte }
 {
-    if byte == 48 {
-        return time_at(reading, ZERO, 0);
+    if byte == b'0' {
+        Place::Zero
+    } else if is_digit(byte) {
+        Place::Digits(digit_value(byte) as u32)
+    } else {
+        Place::Outside
     }
-    if is_digit(byte) {
-        return time_at(reading, TIME, digit_value(byte) as u32);
-    }
-    place_at(reading, OUTSIDE)
-}
-
-fn end_time(reading: Reading) -> Reading
-    ensures { result ≡ time_ended reading }
-{
-    let mut next = reading;
-    next.place = LINE_START;
-    next.timed = true;
-    next
 }
 
 // "times up to 4,000,000,000 ns": a time that is more already takes no digit, so that twenty of them stay in 32 bits.
-fn next_digit(reading: Reading, byte: u8) -> Reading
-    ensures { result ≡ next_digit reading byte }
+fn next_digit(time: u32, byte: u8) -> Place
+    ensures { result ≡ next_digit time byte }
 {
-    if is_digit(byte) {
-        if reading.time <= 400000000 {
-            let time = reading.time * 10 + digit_value(byte) as u32;
-            if time <= 4000000000 {
-                return time_at(reading, TIME, time);
-            }
-            return place_at(reading, OUTSIDE);
-        }
-        return place_at(reading, OUTSIDE);
+    if !is_digit(byte) {
+        return must_end(byte);
     }
-    if byte == 10 {
-        return end_time(reading);
+    if time > 400000000 {
+        return Place::Outside;
     }
-    place_at(reading, OUTSIDE)
+    let longer = time * 10 + digit_value(byte) as u32;
+    if longer > 4000000000 {
+        return Place::Outside;
+    }
+    Place::Digits(longer)
 }
 
-fn must_end(reading: Reading, ended: Reading, byte: u8) -> Reading
-    ensures { result ≡ must_end reading ended byte }
+fn must_end(byte: u8) -> Place
+    ensures { result ≡ must_end byte }
 {
-    if byte == 10 {
-        return ended;
+    if byte == b'\n' {
+        Place::LineStart
+    } else {
+        Place::Outside
     }
-    place_at(reading, OUTSIDE)
 }
 
-fn take_code(reading: Reading, byte: u8, known: bool) -> Reading
-    ensures { result ≡ coded reading byte known }
+fn take_code(level: bool, byte: u8, known: bool) -> Place
+    ensures { result ≡ coded level byte known }
 {
     if known {
-        let mut next = reading;
-        next.place = CODE;
-        next.code = byte;
-        return next;
+        Place::Code(level, byte)
+    } else {
+        Place::Outside
     }
-    place_at(reading, OUTSIDE)
+}
+
+fn is_in_time(place: Place) -> bool
+    ensures { result ≡ in_time place }
+{
+    matches!(place, Place::Digits(_) | Place::Zero)
 }
 
 // One byte more. Whether it is a code of the header is for the caller to say.
 pub fn take(reading: Reading, byte: u8, known: bool) -> Reading
     ensures { result ≡ taken_of reading byte known }
 {
-    let place = reading.place;
-    match place {
-        0 => begin(reading, byte),
-        1 => first_digit(reading, byte),
-        2 => next_digit(reading, byte),
-        3 => must_end(reading, end_time(reading), byte),
-        4 => take_code(reading, byte, known),
-        5 => must_end(reading, place_at(reading, LINE_START), byte),
-        _ => place_at(reading, OUTSIDE),
+    let timed = reading.timed;
+    let place = match reading.place {
+        Place::LineStart => begin(byte, timed),
+        Place::Hash => first_digit(byte),
+        Place::Digits(time) => next_digit(time, byte),
+        Place::Zero | Place::Code(_, _) => must_end(byte),
+        Place::Level(level) => take_code(level, byte, known),
+        Place::Outside => Place::Outside,
+    };
+    Reading {
+        place,
+        timed: timed | (is_in_time(reading.place) & (byte == b'\n')),
     }
 }
 
 pub fn say(reading: Reading, byte: u8) -> Said
     ensures { result ≡ said_of reading byte }
 {
-    if byte == 10 {
-        if (reading.place == TIME) | (reading.place == ZERO) {
-            return Said::TimeLine(reading.time);
-        }
-        if reading.place == CODE {
-            return Said::ValueLine(reading.code, reading.level);
-        }
+    if byte != b'\n' {
+        return Said::NoLine;
     }
-    Said::NoLine
+    match reading.place {
+        Place::Digits(time) => Said::TimeLine(time),
+        Place::Zero => Said::TimeLine(0),
+        Place::Code(level, code) => Said::ValueLine(code, level),
+        _ => Said::NoLine,
+    }
 }

@@ -3,4 +3,4 @@
 
 mod body;
 
-pub use body::{LINE_START, Reading, Said, say, start, take};
+pub use body::{Place, Reading, Said, say, start, take};

@@ -1,7 +1,7 @@
 -- A whole text: whether it is in the subset, its wires, its lines and their times. Order 7: "Read order 6's header for 1 to
 -- 16 wires .., then times up to 4,000,000,000 ns, no leading zeros, each with any value lines of those codes". Assumes
 -- nothing.
-use Rattle.std.specs.Prelude.{ℕ, ◌+◌, Bool, false, ◌&&◌, ◌||◌, List, [], ◌∷◌, ◌++◌, eqb, ltb, leb, length, drop}
+use Rattle.std.specs.Prelude.{ℕ, ◌+◌, Bool, false, ◌&&◌, ◌||◌, List, [], ◌∷◌, ◌++◌, ltb, leb, length, drop}
 use Rattle.std.specs.Prelude.{get_or, Option, None, Some, Result, Ok, Err}
 use Rattle.format.specs.Pick.{pick}
 use Rattle.vcd_text.specs.Header.{line_of}
@@ -16,7 +16,7 @@ use Rattle.refusal.specs.Refusal.{number_of}
 use Rattle.vcd_read.specs.declared.scanning.Scanned.{Scanned}
 use Rattle.vcd_lines.specs.declared.body.Said.{Said}
 use Rattle.vcd_lines.specs.declared.body.Said.TheVariants.{NoLine, TimeLine, ValueLine}
-use Rattle.vcd_lines.specs.Body.{started, taken_of, said_of}
+use Rattle.vcd_lines.specs.Body.{started, at_start, taken_of, said_of}
 use Rattle.vcd_read.specs.Wires.{starts, wires_in, wires_over, twice_of, has_code, code_named}
 
 -- ---- the times ----
@@ -101,7 +101,7 @@ body_checked text at = checked_of (has_code (wires_in text)) unchecked (drop at 
 -- whole text. A text inside ends with a line's end.
 unfoldable pub judged : Header → Checked → Result Scanned Refusal
 judged h x =
-    pick (eqb x.reading.place 0)
+    pick (at_start x.reading.place)
     (pick x.times.late (Err TimeNotLater)
     (Ok (record { code_a = h.code_a; code_b = h.code_b; body = h.body; times = x.times })))
     (Err TextOutside)

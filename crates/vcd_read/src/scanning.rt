@@ -6,7 +6,6 @@ use crate::checking::{Checked, Times, check};
 use crate::named::{code_named, codes_of, twice};
 use crate::wires::{after, wires_in};
 use refusal::Refusal;
-use vcd_lines::LINE_START;
 
 // A header in the subset: the codes of the two wires that are named, and where the lines after it begin.
 #[derive(Clone, Copy)]
@@ -60,7 +59,7 @@ fn read_header(text: &[u8], name_a: &[u8], name_b: &[u8]) -> Option<Header>
 fn judge(header: Header, checked: Checked) -> Result<Scanned, Refusal>
     ensures { result ≡ judged header checked }
 {
-    if checked.reading.place != LINE_START {
+    if !checked.reading.is_at_line_start() {
         return Err(Refusal::TextOutside);
     }
     if checked.times.late {

@@ -1,7 +1,7 @@
 -- What is read as lines was written as those lines: the bytes of a line so far are told by the reading, byte by byte. By induction on the bytes. Assumes nothing.
 use Prim.Native.Nat.{ℕ, zero, suc, ◌+◌, ◌-◌, ◌*◌, ◌/◌, ◌%◌, ◌^◌, ◌≤◌, ◌<◌}
 use mathlib.Core.Path.{◌≡◌, refl, sym, ◌∙◌, ap}
-use mathlib.Core.Bool.{Bool, true, false, ◌&&◌, ◌||◌, true≢false}
+use mathlib.Core.Bool.{Bool, true, false, ◌&&◌, ◌||◌, or-false, or-true, true≢false, false≢true}
 use mathlib.Core.List.{List, [], ◌∷◌, ◌++◌, append_assoc}
 use native.Mathlib.Nat.{pow-succ'}
 use native.Mathlib.Omega.{arith}
@@ -13,11 +13,13 @@ use Rattle.text.specs.Decimal.{decimal_of}
 use Rattle.text.proofs.Laws.Decimal.{decimal_last, decimal_more}
 use Rattle.vcd_text.specs.Lines.{Line, line_text, lines_text}
 use Rattle.vcd_text.specs.Lines.Line.{Time, Value}
+use Rattle.vcd_lines.specs.declared.body.Place.{Place}
+use Rattle.vcd_lines.specs.declared.body.Place.TheVariants.{LineStart, Hash, Digits, Zero, Level, Code, Outside}
 use Rattle.vcd_lines.specs.declared.body.Reading.{Reading}
 use Rattle.vcd_lines.specs.declared.body.Said.TheVariants.{NoLine}
 use Rattle.text.specs.Numbers.{digit}
-use Rattle.vcd_lines.specs.Body.{placed, timing, time_ended, begun, first_digit, next_digit, must_end, coded, taken_of, said_of, line_of, read_all, lines_read}
-use Rattle.vcd_lines.proofs.Laws.Reads.{readable}
+use Rattle.vcd_lines.specs.Body.{at_start, begun, first_digit, next_digit, must_end, coded, place_after, in_time, taken_of, line_at, said_of, line_of, read_all, lines_read}
+use Rattle.vcd_lines.proofs.Laws.Reads.{at, readable}
 use Rattle.vcd_subset.proofs.Wires.{both}
 
 -- ---- decimals of twenty places are those of fewer, where these suffice ----
@@ -41,41 +43,51 @@ digit_more t d p l h =
     decimal_more 20 (t * 10 + d) (λ (z : ◌≡◌ {A = ℕ} 20 0). omega arith) (omega arith)
     ∙ rw (q, r, decimal_fits 18 t l)
 
+-- no line has begun at the start of one alone
+pub start_only : (p : Place) → at_start p ≡ true → p ≡ LineStart
+start_only LineStart e = refl
+start_only Hash e = absurd (false≢true e)
+start_only (Digits n) e = absurd (false≢true e)
+start_only Zero e = absurd (false≢true e)
+start_only (Level v) e = absurd (false≢true e)
+start_only (Code v c) e = absurd (false≢true e)
+start_only Outside e = absurd (false≢true e)
+
 module _ (known : ℕ → Bool) where
   -- the bytes of its line so far, by the place where a reading stands, and what is known of it there
-  so_far : ℕ → Reading → List ℕ
-  so_far zero r = []
-  so_far (suc zero) r = 35 ∷ []
-  so_far (suc (suc zero)) r = 35 ∷ decimal_of 20 r.time
-  so_far (suc (suc (suc zero))) r = 35 ∷ decimal_of 20 r.time
-  so_far (suc (suc (suc (suc zero)))) r = digit_of r.level ∷ []
-  so_far (suc (suc (suc (suc (suc p))))) r = digit_of r.level ∷ r.code ∷ []
+  so_far : Place → List ℕ
+  so_far LineStart = []
+  so_far Hash = 35 ∷ []
+  so_far (Digits n) = 35 ∷ decimal_of 20 n
+  so_far Zero = 35 ∷ decimal_of 20 0
+  so_far (Level v) = digit_of v ∷ []
+  so_far (Code v c) = digit_of v ∷ c ∷ []
+  so_far Outside = []
 
-  Stands : ℕ → Reading → Type 0
-  Stands zero r = r.place ≡ 0
-  Stands (suc zero) r = r.place ≡ 1
-  Stands (suc (suc zero)) r = (r.place ≡ 2) × ((0 < r.time) × (r.time ≤ 4000000000))
-  Stands (suc (suc (suc zero))) r = (r.place ≡ 3) × (r.time ≡ 0)
-  Stands (suc (suc (suc (suc zero)))) r = (r.place ≡ 4) × (r.timed ≡ true)
-  Stands (suc (suc (suc (suc (suc p))))) r = (r.place ≡ 5) × ((r.timed ≡ true) × (known r.code ≡ true))
+  Stands : Place → Bool → Type 0
+  Stands (Digits n) t = (0 < n) × (n ≤ 4000000000)
+  Stands (Level v) t = t ≡ true
+  Stands (Code v c) t = (t ≡ true) × (known c ≡ true)
+  Stands Outside t = ⊥
+  Stands p t = Unit {0}
 
-  abbrev Back : ℕ → Reading → List ℕ → Type 0
-  Back p r bs = (so_far p r ++ bs ≡ lines_text (lines_read known r bs)) × readable known r.timed (lines_read known r bs)
+  abbrev Back : Place → Bool → List ℕ → Type 0
+  Back p t bs = (so_far p ++ bs ≡ lines_text (lines_read known (at p t) bs)) × readable known t (lines_read known (at p t) bs)
 
   abbrev Ends : List ℕ → Type 0
-  Ends bs = (p : ℕ) (r : Reading) → Stands p r → (read_all known r bs).place ≡ 0 → Back p r bs
+  Ends bs = (p : Place) (t : Bool) → Stands p t → (read_all known (at p t) bs).place ≡ LineStart → Back p t bs
 
   -- outside the subset a reading stays there
-  stays_out : (bs : List ℕ) (r : Reading) → r.place ≡ 6 → (read_all known r bs).place ≡ 6
-  unfolding read_all taken_of pick
-  stays_out [] r h = h
-  stays_out (b ∷ bs) r h = stays_out bs (taken_of r b (known b)) (rw h)
+  stays_out : (bs : List ℕ) (t : Bool) → (read_all known (at Outside t) bs).place ≡ Outside
+  unfolding read_all taken_of
+  stays_out [] t = refl
+  stays_out (b ∷ bs) t = stays_out bs (t || false)
 
-  out : {A : Type 0} (bs : List ℕ) (r : Reading) → r.place ≡ 6 → (read_all known r bs).place ≡ 0 → A
-  out bs r h e = absurd (six (sym (stays_out bs r h) ∙ e))
+  out : {A : Type 0} (bs : List ℕ) (t : Bool) → (read_all known (at Outside t) bs).place ≡ LineStart → A
+  out bs t h = absurd (apart (sym (stays_out bs t) ∙ h))
     where
-      six : ◌≡◌ {A = ℕ} 6 0 → ⊥
-      six z = omega arith
+      apart : Outside ≡ LineStart → ⊥
+      apart e = cc
 
   -- ---- one byte ----
 
@@ -84,93 +96,50 @@ module _ (known : ℕ → Bool) where
   unfolding lines_read
   lines_next r b bs = refl
 
-  -- a byte that ends no line leads to a place further on in it
-  moves : (p q : ℕ) (r to : Reading) (b : ℕ) (bs : List ℕ) → taken_of r b (known b) ≡ to → line_of (said_of r b) ≡ []
-      → so_far p r ++ b ∷ [] ≡ so_far q to → to.timed ≡ r.timed → Stands q to → Ends bs → (read_all known r (b ∷ bs)).place ≡ 0 → Back p r (b ∷ bs)
+  -- a byte that ends no time's line
+  step : (p q : Place) (t : Bool) (b : ℕ) → place_after p t b (known b) ≡ q → (in_time p && eqb b 10) ≡ false → taken_of (at p t) b (known b) ≡ at q t
+  unfolding taken_of
+  step p q t b e f = rw (e, f, or-false)
+
+  -- one that ends no line leads to a place further on in it
+  moves : (p q : Place) (t : Bool) (b : ℕ) (bs : List ℕ) → taken_of (at p t) b (known b) ≡ at q t → line_of (said_of (at p t) b) ≡ []
+      → so_far p ++ b ∷ [] ≡ so_far q → Stands q t → Ends bs → (read_all known (at p t) (b ∷ bs)).place ≡ LineStart → Back p t (b ∷ bs)
   unfolding read_all
-  moves p q r to b bs e quiet text same stands ih h =
-      let h' : (read_all known to bs).place ≡ 0 = ap (λ (x : Reading). (read_all known x bs).place) (sym e) ∙ h in
-      let (t, g) = ih q to stands h' in
-      let l : lines_read known r (b ∷ bs) ≡ lines_read known to bs = lines_next r b bs ∙ rw (quiet, e) in (
-        sym (append_assoc (so_far p r) (b ∷ []) bs) ∙ rw (text, l) t,
-        rw (l, sym same) g,
+  moves p q t b bs e quiet text stands ih h =
+      let h' : (read_all known (at q t) bs).place ≡ LineStart = ap (λ (x : Reading). (read_all known x bs).place) (sym e) ∙ h in
+      let (written, good) = ih q t stands h' in
+      let l : lines_read known (at p t) (b ∷ bs) ≡ lines_read known (at q t) bs = lines_next (at p t) b bs ∙ rw (quiet, e) in (
+        sym (append_assoc (so_far p) (b ∷ []) bs) ∙ rw (text, l) written,
+        rw l good,
       )
 
   -- one that ends a line
-  ends : (p : ℕ) (r to : Reading) (b : ℕ) (bs : List ℕ) (l : Line) → taken_of r b (known b) ≡ to → line_of (said_of r b) ≡ l ∷ []
-      → so_far p r ++ b ∷ [] ≡ line_text l → Stands 0 to → ((ls : List Line) → readable known to.timed ls → readable known r.timed (l ∷ ls))
-      → Ends bs → (read_all known r (b ∷ bs)).place ≡ 0 → Back p r (b ∷ bs)
-  unfolding read_all lines_text so_far
-  ends p r to b bs l e said text stands good ih h =
-      let h' : (read_all known to bs).place ≡ 0 = ap (λ (x : Reading). (read_all known x bs).place) (sym e) ∙ h in
-      let (t, g) = ih 0 to stands h' in
-      let ls : lines_read known r (b ∷ bs) ≡ l ∷ lines_read known to bs = lines_next r b bs ∙ rw (said, e) in (
-        sym (append_assoc (so_far p r) (b ∷ []) bs) ∙ rw (text, ls) (ap (λ (x : List ℕ). line_text l ++ x) t),
-        rw ls (good (lines_read known to bs) g),
+  ends : (p : Place) (t u : Bool) (b : ℕ) (bs : List ℕ) (l : Line) → taken_of (at p t) b (known b) ≡ at LineStart u → line_of (said_of (at p t) b) ≡ l ∷ []
+      → so_far p ++ b ∷ [] ≡ line_text l → ((ls : List Line) → readable known u ls → readable known t (l ∷ ls))
+      → Ends bs → (read_all known (at p t) (b ∷ bs)).place ≡ LineStart → Back p t (b ∷ bs)
+  unfolding read_all lines_text so_far Stands
+  ends p t u b bs l e said text takes ih h =
+      let h' : (read_all known (at LineStart u) bs).place ≡ LineStart = ap (λ (x : Reading). (read_all known x bs).place) (sym e) ∙ h in
+      let (written, good) = ih LineStart u tt h' in
+      let ls : lines_read known (at p t) (b ∷ bs) ≡ l ∷ lines_read known (at LineStart u) bs = lines_next (at p t) b bs ∙ rw (said, e) in (
+        sym (append_assoc (so_far p) (b ∷ []) bs) ∙ rw (text, ls) (ap (λ (x : List ℕ). line_text l ++ x) written),
+        rw ls (takes (lines_read known (at LineStart u) bs) good),
       )
 
   -- one that leads outside
-  leaves : {A : Type 0} (r : Reading) (b : ℕ) (bs : List ℕ) → taken_of r b (known b) ≡ placed r 6 → (read_all known r (b ∷ bs)).place ≡ 0 → A
+  leaves : {A : Type 0} (p : Place) (t : Bool) (b : ℕ) (bs : List ℕ) → place_after p t b (known b) ≡ Outside → (in_time p && eqb b 10) ≡ false
+      → (read_all known (at p t) (b ∷ bs)).place ≡ LineStart → A
   unfolding read_all
-  leaves r b bs e h = out bs (placed r 6) refl (ap (λ (x : Reading). (read_all known x bs).place) (sym e) ∙ h)
+  leaves p t b bs e f h = out bs t (ap (λ (x : Reading). (read_all known x bs).place) (sym (step p Outside t b e f)) ∙ h)
 
-  -- only a time or a value line ends
-  quiet_at : (r : Reading) (b : ℕ) → (r.place ≡ 2 → ⊥) → (r.place ≡ 3 → ⊥) → (r.place ≡ 5 → ⊥) → line_of (said_of r b) ≡ []
+  -- only a time or a value line ends, and no digit ends it
+  quiet_at : (p : Place) (t : Bool) (b : ℕ) → line_at p ≡ NoLine → line_of (said_of (at p t) b) ≡ []
   unfolding said_of pick
-  quiet_at r b two three five = rw (ne_eqb r.place 2 two, ne_eqb r.place 3 three, ne_eqb r.place 5 five) (go (eqb b 10))
+  quiet_at p t b e = rw e (go (eqb b 10))
     where
-      go : (t : Bool) → line_of (pick t NoLine NoLine) ≡ []
+      go : (x : Bool) → line_of (pick x NoLine NoLine) ≡ []
       go true = refl
       go false = refl
-
-  quiet-digit : (r : Reading) (b : ℕ) → digit b ≡ true → line_of (said_of r b) ≡ []
-  unfolding said_of pick
-  quiet-digit r b h =
-      let l = ltb-true 47 b (both (ltb 47 b) (ltb b 58) h).0 in
-      rw (ne_eqb b 10 (λ (z : b ≡ 10). omega arith))
-
-  -- ---- where a line begins ----
-
-  start-hash : (r : Reading) (k : Bool) → r.place ≡ 0 → taken_of r 35 k ≡ placed r 1
-  unfolding taken_of begun pick
-  start-hash r k e = rw e
-
-  abbrev leveled : Reading → Bool → Reading
-  leveled r v = record { place = 4; timed = r.timed; time = r.time; level = v; code = r.code }
-
-  start-level : (r : Reading) (v k : Bool) → r.place ≡ 0 → r.timed ≡ true → taken_of r (digit_of v) k ≡ leveled r v
-  unfolding taken_of begun pick digit_of
-  start-level r true k e t = rw (e, t)
-  start-level r false k e t = rw (e, t)
-
-  start-out : (r : Reading) (b : ℕ) (k : Bool) → r.place ≡ 0 → eqb b 35 ≡ false → (r.timed && (eqb b 48 || eqb b 49)) ≡ false → taken_of r b k ≡ placed r 6
-  unfolding taken_of begun pick
-  start-out r b k e f g = rw (e, f, g)
-
-  at-start : (r : Reading) (b : ℕ) (bs : List ℕ) → r.place ≡ 0 → Ends bs → (read_all known r (b ∷ bs)).place ≡ 0 → Back 0 r (b ∷ bs)
-  unfolding so_far Stands digit_of
-  at-start r b bs e ih h = go (eqb b 35) refl
-    where
-      quiet : line_of (said_of r b) ≡ []
-      quiet = quiet_at r b (λ (z : r.place ≡ 2). omega arith) (λ (z : r.place ≡ 3). omega arith) (λ (z : r.place ≡ 5). omega arith)
-
-      level : (v : Bool) → b ≡ digit_of v → r.timed ≡ true → Back 0 r (b ∷ bs)
-      level v is t =
-          moves 0 4 r (leveled r v) b bs (ap (λ (x : ℕ). taken_of r x (known b)) is ∙ start-level r v (known b) e t) quiet (rw is) refl (refl, t) ih h
-
-      value : (t : Bool) → r.timed ≡ t → (x : Bool) → eqb b 48 ≡ x → (y : Bool) → eqb b 49 ≡ y → eqb b 35 ≡ false → Back 0 r (b ∷ bs)
-      value true t true x y q f = level false (eqb-true b 48 x) t
-      value true t false x true y f = level true (eqb-true b 49 y) t
-      value true t false x false y f = leaves r b bs (start-out r b (known b) e f (rw (t, x, y))) h
-      value false t x p y q f = leaves r b bs (start-out r b (known b) e f (rw t)) h
-
-      go : (t : Bool) → eqb b 35 ≡ t → Back 0 r (b ∷ bs)
-      go true f =
-          let is = eqb-true b 35 f in
-          moves 0 1 r (placed r 1) b bs (ap (λ (x : ℕ). taken_of r x (known b)) is ∙ start-hash r (known b) e) quiet (rw is) refl refl ih h
-      go false f = value r.timed refl (eqb b 48) refl (eqb b 49) refl f
-
-  -- ---- in a time ----
 
   digit-bounds : (b : ℕ) → digit b ≡ true → (48 ≤ b) × (b < 58)
   digit-bounds b h =
@@ -178,197 +147,201 @@ module _ (known : ℕ → Bool) where
       let x = ltb-true 47 b l in
       (omega arith, ltb-true b 58 m)
 
-  hash-zero : (r : Reading) (k : Bool) → r.place ≡ 1 → taken_of r 48 k ≡ timing r 3 0
-  unfolding taken_of first_digit pick
-  hash-zero r k e = rw e
+  no_end : (b : ℕ) → digit b ≡ true → eqb b 10 ≡ false
+  no_end b h = let l = (digit-bounds b h).0 in ne_eqb b 10 (λ (z : b ≡ 10). omega arith)
 
-  hash-digit : (r : Reading) (b : ℕ) (k : Bool) → r.place ≡ 1 → eqb b 48 ≡ false → digit b ≡ true → taken_of r b k ≡ timing r 2 (b - 48)
-  unfolding taken_of first_digit pick
-  hash-digit r b k e z d = rw (e, z, d)
+  quiet-digit : (r : Reading) (b : ℕ) → digit b ≡ true → line_of (said_of r b) ≡ []
+  unfolding said_of pick
+  quiet-digit r b h = rw (no_end b h)
 
-  hash-out : (r : Reading) (b : ℕ) (k : Bool) → r.place ≡ 1 → eqb b 48 ≡ false → digit b ≡ false → taken_of r b k ≡ placed r 6
-  unfolding taken_of first_digit pick
-  hash-out r b k e z d = rw (e, z, d)
+  -- ---- where a line begins ----
 
-  at-hash : (r : Reading) (b : ℕ) (bs : List ℕ) → r.place ≡ 1 → Ends bs → (read_all known r (b ∷ bs)).place ≡ 0 → Back 1 r (b ∷ bs)
-  unfolding so_far Stands
-  at-hash r b bs e ih h = go (eqb b 48) refl (digit b) refl
+  begun_level : (v : Bool) → begun (digit_of v) true ≡ Level v
+  unfolding begun pick digit_of
+  begun_level true = refl
+  begun_level false = refl
+
+  start-out : (b : ℕ) (t : Bool) → eqb b 35 ≡ false → (t && (eqb b 48 || eqb b 49)) ≡ false → begun b t ≡ Outside
+  unfolding begun pick
+  start-out b t f g = rw (f, g)
+
+  at-start : (t : Bool) (b : ℕ) (bs : List ℕ) → Ends bs → (read_all known (at LineStart t) (b ∷ bs)).place ≡ LineStart → Back LineStart t (b ∷ bs)
+  unfolding so_far Stands digit_of begun pick
+  at-start t b bs ih h = go (eqb b 35) refl
     where
-      quiet : line_of (said_of r b) ≡ []
-      quiet = quiet_at r b (λ (z : r.place ≡ 2). omega arith) (λ (z : r.place ≡ 3). omega arith) (λ (z : r.place ≡ 5). omega arith)
+      quiet : line_of (said_of (at LineStart t) b) ≡ []
+      quiet = quiet_at LineStart t b refl
 
-      go : (t : Bool) → eqb b 48 ≡ t → (d : Bool) → digit b ≡ d → Back 1 r (b ∷ bs)
+      level : (v : Bool) → b ≡ digit_of v → t ≡ true → Back LineStart t (b ∷ bs)
+      level v is e =
+          moves LineStart (Level v) t b bs (step LineStart (Level v) t b (rw (is, e) (begun_level v)) refl) quiet (rw is) e ih h
+
+      value : (x : Bool) → t ≡ x → (y : Bool) → eqb b 48 ≡ y → (z : Bool) → eqb b 49 ≡ z → eqb b 35 ≡ false → Back LineStart t (b ∷ bs)
+      value true e true y z q f = level false (eqb-true b 48 y) e
+      value true e false y true z f = level true (eqb-true b 49 z) e
+      value true e false y false z f = leaves LineStart t b bs (start-out b t f (rw (e, y, z))) refl h
+      value false e y p z q f = leaves LineStart t b bs (start-out b t f (rw e)) refl h
+
+      go : (x : Bool) → eqb b 35 ≡ x → Back LineStart t (b ∷ bs)
+      go true f = moves LineStart Hash t b bs (step LineStart Hash t b (rw f) refl) quiet (rw (eqb-true b 35 f)) tt ih h
+      go false f = value t refl (eqb b 48) refl (eqb b 49) refl f
+
+  -- ---- in a time ----
+
+  at-hash : (t : Bool) (b : ℕ) (bs : List ℕ) → Ends bs → (read_all known (at Hash t) (b ∷ bs)).place ≡ LineStart → Back Hash t (b ∷ bs)
+  unfolding so_far Stands first_digit pick
+  at-hash t b bs ih h = go (eqb b 48) refl (digit b) refl
+    where
+      quiet : line_of (said_of (at Hash t) b) ≡ []
+      quiet = quiet_at Hash t b refl
+
+      go : (x : Bool) → eqb b 48 ≡ x → (d : Bool) → digit b ≡ d → Back Hash t (b ∷ bs)
       go true z d q =
-          let is = eqb-true b 48 z in
-          moves 1 3 r (timing r 3 0) b bs (ap (λ (x : ℕ). taken_of r x (known b)) is ∙ hash-zero r (known b) e) quiet
-          (rw (is, decimal_last 20 0 (λ (x : ◌≡◌ {A = ℕ} 20 0). omega arith) (omega arith))) refl (refl, refl) ih h
+          moves Hash Zero t b bs (step Hash Zero t b (rw z) refl) quiet
+          (rw (eqb-true b 48 z, decimal_last 20 0 (λ (x : ◌≡◌ {A = ℕ} 20 0). omega arith) (omega arith))) tt ih h
       go false z true q =
           let (l, m) = digit-bounds b q in
           let n = eqb-false b 48 z in
           let w : 48 + (b - 48) ≡ b = omega arith in
           let some : 0 < b - 48 = omega (arith, n) in
-          moves 1 2 r (timing r 2 (b - 48)) b bs (hash-digit r b (known b) e z q) quiet
-          (rw (decimal_last 20 (b - 48) (λ (x : ◌≡◌ {A = ℕ} 20 0). omega arith) (omega arith), w)) refl (refl, (some, omega arith)) ih h
-      go false z false q = leaves r b bs (hash-out r b (known b) e z q) h
+          moves Hash (Digits (b - 48)) t b bs (step Hash (Digits (b - 48)) t b (rw (z, q)) refl) quiet
+          (rw (decimal_last 20 (b - 48) (λ (x : ◌≡◌ {A = ℕ} 20 0). omega arith) (omega arith), w)) (some, omega arith) ih h
+      go false z false q = leaves Hash t b bs (rw (z, q)) refl h
 
-  number-digit : (r : Reading) (b : ℕ) (k : Bool) → r.place ≡ 2 → digit b ≡ true → leb r.time 400000000 ≡ true
-      → leb (r.time * 10 + (b - 48)) 4000000000 ≡ true → taken_of r b k ≡ timing r 2 (r.time * 10 + (b - 48))
-  unfolding taken_of next_digit pick
-  number-digit r b k e d l m = rw (e, d, l, m)
+  number-digit : (n b : ℕ) → digit b ≡ true → leb n 400000000 ≡ true → leb (n * 10 + (b - 48)) 4000000000 ≡ true
+      → next_digit n b ≡ Digits (n * 10 + (b - 48))
+  unfolding next_digit pick
+  number-digit n b d l m = rw (d, l, m)
 
-  number-much : (r : Reading) (b : ℕ) (k : Bool) → r.place ≡ 2 → digit b ≡ true
-      → (leb r.time 400000000 && leb (r.time * 10 + (b - 48)) 4000000000) ≡ false → taken_of r b k ≡ placed r 6
-  unfolding taken_of next_digit pick
-  number-much r b k e d l = rw (e, d) (go (leb r.time 400000000) (leb (r.time * 10 + (b - 48)) 4000000000) l)
+  number-much : (n b : ℕ) → digit b ≡ true → (leb n 400000000 && leb (n * 10 + (b - 48)) 4000000000) ≡ false → next_digit n b ≡ Outside
+  unfolding next_digit pick
+  number-much n b d l = rw d (go (leb n 400000000) (leb (n * 10 + (b - 48)) 4000000000) l)
     where
-      go : (x y : Bool) → (x && y) ≡ false → pick x (pick y (timing r 2 (r.time * 10 + (b - 48))) (placed r 6)) (placed r 6) ≡ placed r 6
+      go : (x y : Bool) → (x && y) ≡ false → pick x (pick y (Digits (n * 10 + (b - 48))) Outside) Outside ≡ Outside
       go true true h = absurd (true≢false h)
       go true false h = refl
       go false y h = refl
 
-  number-ends : (r : Reading) (k : Bool) → r.place ≡ 2 → (taken_of r 10 k ≡ time_ended r) × (line_of (said_of r 10) ≡ Time r.time ∷ [])
-  unfolding taken_of next_digit said_of pick
-  number-ends r k e = (rw e, rw e)
+  number-ends : (n : ℕ) (t k : Bool) → (taken_of (at (Digits n) t) 10 k ≡ at LineStart true) × (line_of (said_of (at (Digits n) t) 10) ≡ Time n ∷ [])
+  unfolding taken_of next_digit must_end said_of pick
+  number-ends n t k = (rw or-true, refl)
 
-  number-out : (r : Reading) (b : ℕ) (k : Bool) → r.place ≡ 2 → digit b ≡ false → eqb b 10 ≡ false → taken_of r b k ≡ placed r 6
-  unfolding taken_of next_digit pick
-  number-out r b k e d n = rw (e, d, n)
+  number-out : (n b : ℕ) → digit b ≡ false → eqb b 10 ≡ false → next_digit n b ≡ Outside
+  unfolding next_digit must_end pick
+  number-out n b d e = rw (d, e)
 
   -- a time's line, whatever follows it
-  time-good : (r : Reading) → r.time ≤ 4000000000 → (ls : List Line) → readable known true ls → readable known r.timed (Time r.time ∷ ls)
+  time-good : (n : ℕ) (t : Bool) → n ≤ 4000000000 → (ls : List Line) → readable known true ls → readable known t (Time n ∷ ls)
   unfolding readable
-  time-good r h ls g = (h, g)
+  time-good n t h ls g = (h, g)
 
-  time-text : (r : Reading) → 35 ∷ decimal_of 20 r.time ++ 10 ∷ [] ≡ line_text (Time r.time)
+  time-text : (n : ℕ) → 35 ∷ decimal_of 20 n ++ 10 ∷ [] ≡ line_text (Time n)
   unfolding line_text
-  time-text r = refl
+  time-text n = refl
 
-  at-number : (r : Reading) (b : ℕ) (bs : List ℕ) → r.place ≡ 2 → 0 < r.time → r.time ≤ 4000000000 → Ends bs
-      → (read_all known r (b ∷ bs)).place ≡ 0 → Back 2 r (b ∷ bs)
+  at-number : (n : ℕ) (t : Bool) (b : ℕ) (bs : List ℕ) → 0 < n → n ≤ 4000000000 → Ends bs
+      → (read_all known (at (Digits n) t) (b ∷ bs)).place ≡ LineStart → Back (Digits n) t (b ∷ bs)
   unfolding so_far Stands
-  at-number r b bs e some few ih h = go (digit b) refl (eqb b 10) refl
+  at-number n t b bs some few ih h = go (digit b) refl (eqb b 10) refl
     where
-      more : (x : Bool) → leb r.time 400000000 ≡ x → (y : Bool) → leb (r.time * 10 + (b - 48)) 4000000000 ≡ y → digit b ≡ true → Back 2 r (b ∷ bs)
+      more : (x : Bool) → leb n 400000000 ≡ x → (y : Bool) → leb (n * 10 + (b - 48)) 4000000000 ≡ y → digit b ≡ true → Back (Digits n) t (b ∷ bs)
       more true x true y d =
           let (l, m) = digit-bounds b d in
           let w : 48 + (b - 48) ≡ b = omega arith in
-          moves 2 2 r (timing r 2 (r.time * 10 + (b - 48))) b bs (number-digit r b (known b) e d x y) (quiet-digit r b d)
-          (ap (λ (l : List ℕ). 35 ∷ l) (sym (digit_more r.time (b - 48) some (omega arith) (omega arith) ∙ rw w)))
-          refl (refl, (omega arith, leb-true (r.time * 10 + (b - 48)) 4000000000 y)) ih h
-      more true x false y d = leaves r b bs (number-much r b (known b) e d (rw (x, y))) h
-      more false x y q d = leaves r b bs (number-much r b (known b) e d (rw x)) h
+          moves (Digits n) (Digits (n * 10 + (b - 48))) t b bs (step (Digits n) _ t b (number-digit n b d x y) (no_end b d)) (quiet-digit (at (Digits n) t) b d)
+          (ap (λ (l : List ℕ). 35 ∷ l) (sym (digit_more n (b - 48) some (omega arith) (omega arith) ∙ rw w)))
+          (omega arith, leb-true (n * 10 + (b - 48)) 4000000000 y) ih h
+      more true x false y d = leaves (Digits n) t b bs (number-much n b d (rw (x, y))) (no_end b d) h
+      more false x y q d = leaves (Digits n) t b bs (number-much n b d (rw x)) (no_end b d) h
 
-      go : (d : Bool) → digit b ≡ d → (n : Bool) → eqb b 10 ≡ n → Back 2 r (b ∷ bs)
-      go true d n q = more (leb r.time 400000000) refl (leb (r.time * 10 + (b - 48)) 4000000000) refl d
+      go : (d : Bool) → digit b ≡ d → (e : Bool) → eqb b 10 ≡ e → Back (Digits n) t (b ∷ bs)
+      go true d e q = more (leb n 400000000) refl (leb (n * 10 + (b - 48)) 4000000000) refl d
       go false d true q =
           let is = eqb-true b 10 q in
-          let (t, s) = number-ends r (known b) e in
-          ends 2 r (time_ended r) b bs (Time r.time) (ap (λ (x : ℕ). taken_of r x (known b)) is ∙ t) (ap (λ (x : ℕ). line_of (said_of r x)) is ∙ s)
-          (rw is (time-text r)) refl (time-good r few) ih h
-      go false d false q = leaves r b bs (number-out r b (known b) e d q) h
+          let (e, s) = number-ends n t (known b) in
+          ends (Digits n) t true b bs (Time n) (ap (λ (x : ℕ). taken_of (at (Digits n) t) x (known b)) is ∙ e)
+          (ap (λ (x : ℕ). line_of (said_of (at (Digits n) t) x)) is ∙ s) (rw is (time-text n)) (time-good n t few) ih h
+      go false d false q = leaves (Digits n) t b bs (number-out n b d q) q h
 
-  zero-ends : (r : Reading) (k : Bool) → r.place ≡ 3 → (taken_of r 10 k ≡ time_ended r) × (line_of (said_of r 10) ≡ Time r.time ∷ [])
+  zero-ends : (t k : Bool) → (taken_of (at Zero t) 10 k ≡ at LineStart true) × (line_of (said_of (at Zero t) 10) ≡ Time 0 ∷ [])
   unfolding taken_of must_end said_of pick
-  zero-ends r k e = (rw e, rw e)
+  zero-ends t k = (rw or-true, refl)
 
-  zero-out : (r : Reading) (b : ℕ) (k : Bool) → r.place ≡ 3 → eqb b 10 ≡ false → taken_of r b k ≡ placed r 6
-  unfolding taken_of must_end pick
-  zero-out r b k e n = rw (e, n)
+  end-out : (b : ℕ) → eqb b 10 ≡ false → must_end b ≡ Outside
+  unfolding must_end pick
+  end-out b e = rw e
 
-  at_zero : (r : Reading) (b : ℕ) (bs : List ℕ) → r.place ≡ 3 → r.time ≡ 0 → Ends bs → (read_all known r (b ∷ bs)).place ≡ 0 → Back 3 r (b ∷ bs)
+  at_zero : (t : Bool) (b : ℕ) (bs : List ℕ) → Ends bs → (read_all known (at Zero t) (b ∷ bs)).place ≡ LineStart → Back Zero t (b ∷ bs)
   unfolding so_far Stands
-  at_zero r b bs e z ih h = go (eqb b 10) refl
+  at_zero t b bs ih h = go (eqb b 10) refl
     where
-      go : (n : Bool) → eqb b 10 ≡ n → Back 3 r (b ∷ bs)
+      go : (x : Bool) → eqb b 10 ≡ x → Back Zero t (b ∷ bs)
       go true q =
           let is = eqb-true b 10 q in
-          let (t, s) = zero-ends r (known b) e in
-          ends 3 r (time_ended r) b bs (Time r.time) (ap (λ (x : ℕ). taken_of r x (known b)) is ∙ t) (ap (λ (x : ℕ). line_of (said_of r x)) is ∙ s)
-          (rw is (time-text r)) refl (time-good r (omega arith)) ih h
-      go false q = leaves r b bs (zero-out r b (known b) e q) h
+          let (e, s) = zero-ends t (known b) in
+          ends Zero t true b bs (Time 0) (ap (λ (x : ℕ). taken_of (at Zero t) x (known b)) is ∙ e) (ap (λ (x : ℕ). line_of (said_of (at Zero t) x)) is ∙ s)
+          (rw is (time-text 0)) (time-good 0 t (omega arith)) ih h
+      go false q = leaves Zero t b bs (end-out b q) q h
 
   -- ---- in a value line ----
 
-  abbrev coded_as : Reading → ℕ → Reading
-  coded_as r b = record { place = 5; timed = r.timed; time = r.time; level = r.level; code = b }
-
-  level-code : (r : Reading) (b : ℕ) → r.place ≡ 4 → taken_of r b true ≡ coded_as r b
-  unfolding taken_of coded pick
-  level-code r b e = rw e
-
-  level_out : (r : Reading) (b : ℕ) → r.place ≡ 4 → taken_of r b false ≡ placed r 6
-  unfolding taken_of coded pick
-  level_out r b e = rw e
-
-  at_level : (r : Reading) (b : ℕ) (bs : List ℕ) → r.place ≡ 4 → r.timed ≡ true → Ends bs → (read_all known r (b ∷ bs)).place ≡ 0 → Back 4 r (b ∷ bs)
-  unfolding so_far Stands
-  at_level r b bs e t ih h = go (known b) refl
+  at_level : (v t : Bool) (b : ℕ) (bs : List ℕ) → t ≡ true → Ends bs → (read_all known (at (Level v) t) (b ∷ bs)).place ≡ LineStart → Back (Level v) t (b ∷ bs)
+  unfolding so_far Stands coded pick
+  at_level v t b bs e ih h = go (known b) refl
     where
-      quiet : line_of (said_of r b) ≡ []
-      quiet = quiet_at r b (λ (z : r.place ≡ 2). omega arith) (λ (z : r.place ≡ 3). omega arith) (λ (z : r.place ≡ 5). omega arith)
+      go : (k : Bool) → known b ≡ k → Back (Level v) t (b ∷ bs)
+      go true k = moves (Level v) (Code v b) t b bs (step (Level v) (Code v b) t b (rw k) refl) (quiet_at (Level v) t b refl) refl (e, k) ih h
+      go false k = leaves (Level v) t b bs (rw k) refl h
 
-      go : (k : Bool) → known b ≡ k → Back 4 r (b ∷ bs)
-      go true k = moves 4 5 r (coded_as r b) b bs (rw k (level-code r b e)) quiet refl refl (refl, (t, k)) ih h
-      go false k = leaves r b bs (rw k (level_out r b e)) h
-
-  code-ends : (r : Reading) (k : Bool) → r.place ≡ 5 → (taken_of r 10 k ≡ placed r 0) × (line_of (said_of r 10) ≡ Value r.code r.level ∷ [])
+  code-ends : (v : Bool) (c : ℕ) (t k : Bool) → (taken_of (at (Code v c) t) 10 k ≡ at LineStart t) × (line_of (said_of (at (Code v c) t) 10) ≡ Value c v ∷ [])
   unfolding taken_of must_end said_of pick
-  code-ends r k e = (rw e, rw e)
+  code-ends v c t k = (rw or-false, refl)
 
-  code_out : (r : Reading) (b : ℕ) (k : Bool) → r.place ≡ 5 → eqb b 10 ≡ false → taken_of r b k ≡ placed r 6
-  unfolding taken_of must_end pick
-  code_out r b k e n = rw (e, n)
-
-  value-good : (r : Reading) → r.timed ≡ true → known r.code ≡ true → (ls : List Line) → readable known r.timed ls
-      → readable known r.timed (Value r.code r.level ∷ ls)
+  value-good : (v : Bool) (c : ℕ) (t : Bool) → t ≡ true → known c ≡ true → (ls : List Line) → readable known t ls → readable known t (Value c v ∷ ls)
   unfolding readable
-  value-good r t k ls g = (t, (k, g))
+  value-good v c t e k ls g = (e, (k, g))
 
-  value-text : (r : Reading) → digit_of r.level ∷ r.code ∷ 10 ∷ [] ≡ line_text (Value r.code r.level)
+  value-text : (v : Bool) (c : ℕ) → digit_of v ∷ c ∷ 10 ∷ [] ≡ line_text (Value c v)
   unfolding line_text
-  value-text r = refl
+  value-text v c = refl
 
-  at_code : (p : ℕ) (r : Reading) (b : ℕ) (bs : List ℕ) → r.place ≡ 5 → r.timed ≡ true → known r.code ≡ true → Ends bs
-      → (read_all known r (b ∷ bs)).place ≡ 0 → Back (suc (suc (suc (suc (suc p))))) r (b ∷ bs)
+  at_code : (v : Bool) (c : ℕ) (t : Bool) (b : ℕ) (bs : List ℕ) → t ≡ true → known c ≡ true → Ends bs
+      → (read_all known (at (Code v c) t) (b ∷ bs)).place ≡ LineStart → Back (Code v c) t (b ∷ bs)
   unfolding so_far Stands
-  at_code p r b bs e t k ih h = go (eqb b 10) refl
+  at_code v c t b bs e k ih h = go (eqb b 10) refl
     where
-      go : (n : Bool) → eqb b 10 ≡ n → Back (suc (suc (suc (suc (suc p))))) r (b ∷ bs)
+      go : (x : Bool) → eqb b 10 ≡ x → Back (Code v c) t (b ∷ bs)
       go true q =
           let is = eqb-true b 10 q in
-          let (u, s) = code-ends r (known b) e in
-          ends (suc (suc (suc (suc (suc p))))) r (placed r 0) b bs (Value r.code r.level) (ap (λ (x : ℕ). taken_of r x (known b)) is ∙ u)
-          (ap (λ (x : ℕ). line_of (said_of r x)) is ∙ s) (rw is (value-text r)) refl (value-good r t k) ih h
-      go false q = leaves r b bs (code_out r b (known b) e q) h
+          let (u, s) = code-ends v c t (known b) in
+          ends (Code v c) t t b bs (Value c v) (ap (λ (x : ℕ). taken_of (at (Code v c) t) x (known b)) is ∙ u)
+          (ap (λ (x : ℕ). line_of (said_of (at (Code v c) t) x)) is ∙ s) (rw is (value-text v c)) (value-good v c t e k) ih h
+      go false q = leaves (Code v c) t b bs (end-out b q) refl h
 
   -- ---- the whole ----
 
   -- where no byte is left, no line has begun
-  at-end : (p : ℕ) (r : Reading) → Stands p r → r.place ≡ 0 → Back p r []
-  unfolding Stands so_far lines_read lines_text readable
-  at-end zero r s e = (refl, tt)
-  at-end (suc zero) r s e = absurd (omega arith)
-  at-end (suc (suc zero)) r (s, q) e = absurd (omega arith)
-  at-end (suc (suc (suc zero))) r (s, q) e = absurd (omega arith)
-  at-end (suc (suc (suc (suc zero)))) r (s, q) e = absurd (omega arith)
-  at-end (suc (suc (suc (suc (suc p))))) r (s, q) e = absurd (omega arith)
+  at-end : (p : Place) (t : Bool) → p ≡ LineStart → Back p t []
+  unfolding so_far lines_read lines_text readable
+  at-end p t e = (rw e, tt)
 
   at_byte : (b : ℕ) (bs : List ℕ) → Ends bs → Ends (b ∷ bs)
   unfolding Stands
-  at_byte b bs ih zero r s h = at-start r b bs s ih h
-  at_byte b bs ih (suc zero) r s h = at-hash r b bs s ih h
-  at_byte b bs ih (suc (suc zero)) r (s, (q, m)) h = at-number r b bs s q m ih h
-  at_byte b bs ih (suc (suc (suc zero))) r (s, z) h = at_zero r b bs s z ih h
-  at_byte b bs ih (suc (suc (suc (suc zero)))) r (s, t) h = at_level r b bs s t ih h
-  at_byte b bs ih (suc (suc (suc (suc (suc p))))) r (s, (t, k)) h = at_code p r b bs s t k ih h
+  at_byte b bs ih LineStart t s h = at-start t b bs ih h
+  at_byte b bs ih Hash t s h = at-hash t b bs ih h
+  at_byte b bs ih (Digits n) t (s, m) h = at-number n t b bs s m ih h
+  at_byte b bs ih Zero t s h = at_zero t b bs ih h
+  at_byte b bs ih (Level v) t s h = at_level v t b bs s ih h
+  at_byte b bs ih (Code v c) t (s, k) h = at_code v c t b bs s k ih h
+  at_byte b bs ih Outside t s h = absurd s
 
   all_read : (bs : List ℕ) → Ends bs
   unfolding read_all
-  all_read [] = λ p r s h. at-end p r s h
+  all_read [] = λ p t s h. at-end p t h
   all_read (b ∷ bs) = at_byte b bs (all_read bs)
 
   -- What is read as lines to its end was written as those lines, and they are such as a reader takes.
-  pub body_back : (bs : List ℕ) (r : Reading) → r.place ≡ 0 → (read_all known r bs).place ≡ 0
-      → (bs ≡ lines_text (lines_read known r bs)) × readable known r.timed (lines_read known r bs)
+  pub body_back : (bs : List ℕ) (t : Bool) → (read_all known (at LineStart t) bs).place ≡ LineStart
+      → (bs ≡ lines_text (lines_read known (at LineStart t) bs)) × readable known t (lines_read known (at LineStart t) bs)
   unfolding so_far Stands
-  body_back bs r e h = all_read bs 0 r e h
+  body_back bs t h = all_read bs LineStart t tt h

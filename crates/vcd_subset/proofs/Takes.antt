@@ -4,9 +4,8 @@ use mathlib.Core.Path.{◌≡◌, refl, sym, ◌∙◌, ap}
 use mathlib.Core.Bool.{Bool, true, false, ◌||◌, true≢false}
 use mathlib.Core.List.{List, [], ◌∷◌, ◌++◌}
 use native.Mathlib.Omega.{arith}
-use lib.Dec.{eqb}
 use lib.ListN.{length, drop}
-use borrow.Author.Tests.{eqb-true, lt-leb, leb-false}
+use borrow.Author.Tests.{lt-leb, leb-false}
 use Rattle.std.specs.Prelude.{Option, None, Some, Ok, Err}
 use Rattle.format.specs.Pick.{pick}
 use Rattle.vcd_text.specs.Header.{Wire, header_of}
@@ -16,7 +15,8 @@ use Rattle.vcd_read.specs.declared.checking.Checked.{Checked}
 use Rattle.vcd_read.specs.declared.checking.Times.{Times}
 use Rattle.refusal.specs.declared.refusal.Refusal.TheVariants.{TextOutside, TimeNotLater}
 use Rattle.vcd_read.specs.declared.scanning.Scanned.{Scanned}
-use Rattle.vcd_lines.specs.Body.{started, read_all, lines_read}
+use Rattle.vcd_lines.specs.declared.body.Place.TheVariants.{LineStart}
+use Rattle.vcd_lines.specs.Body.{started, at_start, read_all, lines_read}
 use Rattle.vcd_read.specs.declared.scanning.Header.{Header}
 use Rattle.vcd_read.specs.Wires.{wires_in, has_code}
 use Rattle.vcd_read.specs.Scan.{header_read, body_checked, no_times, not_later, time_added, times_from, unchecked, judged, scan_with, scan_of}
@@ -25,7 +25,7 @@ use Rattle.vcd_read.proofs.Laws.Header.{both_named}
 use Rattle.vcd_read.proofs.Laws.Checks.{checked_reads}
 use Rattle.vcd_subset.specs.Subset.{Named, GoodLines, Says}
 use Rattle.vcd_subset.proofs.Header.{code_is, code_back, name_is, wires-in, header-left, header-there, header_back}
-use Rattle.vcd_subset.proofs.Body.{body_back}
+use Rattle.vcd_subset.proofs.Body.{start_only, body_back}
 
 -- ---- the lines ----
 
@@ -101,7 +101,7 @@ module _ (text a b : List ℕ) (ws : List Wire) (ls : List Line) (says : Says te
       ∙ rw ((name_is ws a ca says.wires na).0, (name_is ws b cb says.wires nb).0) (both_named ca cb (length (header_of ws)))) in
       let wires : wires_in text ≡ ws = rw says.written (wires-in ws (lines_text ls) says.wires says.some says.few) in
       let left : drop (length (header_of ws)) text ≡ lines_text ls = rw says.written (header-left ws (lines_text ls)) in
-      let (said, place) = lines-read (has_code ws) ls started (lines_are ws false ls says.lines) in
+      let (said, place) = lines-read (has_code ws) ls false (lines_are ws false ls says.lines) in
       rw (head, wires, left, checked_reads (has_code ws) unchecked (lines_text ls), said, place)
 
 -- ---- what is taken ----
@@ -114,13 +114,13 @@ record Read (text a b : List ℕ) (h : Header) : Type 0 where
   first : Named wires a h.code_a
   second : Named wires b h.code_b
 
-read_back : (text a b : List ℕ) (h : Header) → header_read text a b ≡ Some h → (body_checked text h.body).reading.place ≡ 0 → Read text a b h
+read_back : (text a b : List ℕ) (h : Header) → header_read text a b ≡ Some h → (body_checked text h.body).reading.place ≡ LineStart → Read text a b h
 read_back text a b h i e =
     let found = header_back text a b h i in
     let ws = wires_in text in
     let bs = drop h.body text in
-    let place : (read_all (has_code ws) started bs).place ≡ 0 = ap (λ (x : Checked). x.reading.place) (sym (checked_reads (has_code ws) unchecked bs)) ∙ e in
-    let (text_is, good) = body_back (has_code ws) bs started refl place in
+    let place : (read_all (has_code ws) started bs).place ≡ LineStart = ap (λ (x : Checked). x.reading.place) (sym (checked_reads (has_code ws) unchecked bs)) ∙ e in
+    let (text_is, good) = body_back (has_code ws) bs false place in
     record {
       wires = ws;
       lines = lines_read (has_code ws) started bs;
@@ -147,13 +147,13 @@ module _ (text a b : List ℕ) where
   unfolding scan_of scan_with judged pick
   either_way {A} read other = go (header_read text a b) refl
     where
-      placed : (h : Header) → header_read text a b ≡ Some h → (p : Bool) → eqb (body_checked text h.body).reading.place 0 ≡ p → A
+      placed : (h : Header) → header_read text a b ≡ Some h → (p : Bool) → at_start (body_checked text h.body).reading.place ≡ p → A
       placed h e false q = other (rw (e, q))
-      placed h e true q = let r = read_back text a b h e (eqb-true _ 0 q) in read r.wires r.lines _ _ r.says r.first r.second
+      placed h e true q = let r = read_back text a b h e (start_only _ q) in read r.wires r.lines _ _ r.says r.first r.second
 
       go : (o : Option Header) → header_read text a b ≡ o → A
       go None e = other (rw e)
-      go (Some h) e = placed h e (eqb (body_checked text h.body).reading.place 0) refl
+      go (Some h) e = placed h e (at_start (body_checked text h.body).reading.place) refl
 
   not-ten : (t : Bool) (s : Scanned) → pick t (Err TimeNotLater) (Ok s) ≡ Err TextOutside → ⊥
   unfolding pick

@@ -6,6 +6,7 @@ use mathlib.Core.Path.{◌≡◌, refl, ap, ◌∙◌}
 use mathlib.Core.Bool.{Bool, true, false}
 use mathlib.Core.List.{List, [], ◌∷◌, ◌++◌, append-nil, append_assoc}
 use lib.Seq.{append_snoc}
+use Rattle.std.specs.Prelude.{Option, Some}
 use Rattle.format.specs.Pick.{pick}
 use Rattle.format.proofs.Laws.Pick.{pick_yes, pick_no}
 use Rattle.replay_script.specs.declared.reading.Reading.{Reading}
@@ -34,16 +35,16 @@ unfoldable pub name_of : List (List ℕ) → ℕ
 name_of [] = 1
 name_of (a ∷ ws) = name_from 1 a
 
-unfoldable pub first_of : List (List ℕ) → ℕ
-first_of [] = 0
-first_of (a ∷ []) = 0
-first_of (a ∷ b ∷ ws) = number_from 0 b
+unfoldable pub first_of : List (List ℕ) → Option ℕ
+first_of [] = Some 0
+first_of (a ∷ []) = Some 0
+first_of (a ∷ b ∷ ws) = number_from (Some 0) b
 
-unfoldable pub second_of : List (List ℕ) → ℕ
-second_of [] = 0
-second_of (a ∷ []) = 0
-second_of (a ∷ b ∷ []) = 0
-second_of (a ∷ b ∷ c ∷ ws) = number_from 0 c
+unfoldable pub second_of : List (List ℕ) → Option ℕ
+second_of [] = Some 0
+second_of (a ∷ []) = Some 0
+second_of (a ∷ b ∷ []) = Some 0
+second_of (a ∷ b ∷ c ∷ ws) = number_from (Some 0) c
 
 abbrev pub summary_of : Bool → List (List ℕ) → Reading
 summary_of inside ws =
@@ -78,8 +79,8 @@ begun (x ∷ y ∷ z ∷ u ∷ ws) b = refl
 lengthened : (ws : List (List ℕ)) (c : ℕ) (w : List ℕ) (b : ℕ) → Added ws (c ∷ w) b
 unfolding added_of begun_of comment_after words_after pick comment_of count_of name_of first_of second_of hash_of
 lengthened [] c w b = rw (name_snoc 1 (c ∷ w) b)
-lengthened (x ∷ []) c w b = rw (number_snoc 0 (c ∷ w) b)
-lengthened (x ∷ y ∷ []) c w b = rw (number_snoc 0 (c ∷ w) b)
+lengthened (x ∷ []) c w b = rw (number_snoc (Some 0) (c ∷ w) b)
+lengthened (x ∷ y ∷ []) c w b = rw (number_snoc (Some 0) (c ∷ w) b)
 lengthened (x ∷ y ∷ z ∷ []) c w b = refl
 lengthened (x ∷ y ∷ z ∷ u ∷ ws) c w b = refl
 

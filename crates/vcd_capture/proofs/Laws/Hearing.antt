@@ -1,7 +1,7 @@
 -- Pulses that find one level, one after the other; and the bytes of what they bring. Assumes nothing.
 use Prim.Native.Nat.{ℕ, ◌+◌, ◌-◌, ◌*◌, ◌/◌, ◌^◌, ◌≤◌, ◌<◌}
 use mathlib.Core.Path.{◌≡◌, refl, sym, ap}
-use mathlib.Core.Bool.{Bool, true, ◌||◌}
+use mathlib.Core.Bool.{Bool, true}
 use mathlib.Core.List.{List, [], ◌∷◌, ◌++◌, append_assoc, append-nil}
 use native.Mathlib.Nat.{div-le_self}
 use native.Mathlib.Omega.{arith}
@@ -14,10 +14,13 @@ use Rattle.sampler_state.specs.declared.state.Sampler.{Sampler}
 use Rattle.std.specs.Prelude.{Option, None, Some, option_to_list}
 use Rattle.sampler.specs.Lines.{hears, after_lines, arrivals}
 use Rattle.sampler.specs.Lines as Hearing
+use Rattle.vcd_lines.specs.declared.body.Place.{Place}
+use Rattle.vcd_lines.specs.declared.body.Place.TheVariants.{LineStart, Hash, Digits, Zero, Level, Code, Outside}
 use Rattle.vcd_lines.specs.declared.body.Reading.{Reading}
 use Rattle.vcd_lines.specs.declared.body.Said.{Said}
 use Rattle.vcd_lines.specs.declared.body.Said.TheVariants.{NoLine, TimeLine, ValueLine}
-use Rattle.vcd_lines.specs.Body.{taken_of, said_of}
+use Rattle.vcd_lines.specs.Body.{taken_of, line_at, said_of}
+use Rattle.vcd_read.proofs.Laws.Checking.{Within}
 use Rattle.vcd_read.proofs.Laws.Starts.{from}
 use Rattle.vcd_capture.specs.declared.ear.Ear.{Ear}
 use Rattle.vcd_capture.specs.Logs.{character_bytes, log_bytes}
@@ -118,8 +121,15 @@ module _ (period : ℕ) (f : Setting) (code end : ℕ) (r : Reading) (e : Ear) w
   pub heard-end : (text : List ℕ) (i : ℕ) → length text ≤ i → log_bytes (heard_from period f code end r e (drop i text)) ≡ log_bytes (heard_until period f end e)
   heard-end text i h = rw (drop_of_length-le text h) (ap log_bytes heard-nil)
 
-pub said_fits : (r : Reading) (b : ℕ) → r.time ≤ 4000000000 → SaidFits (said_of r b)
+pub said_fits : (r : Reading) (b : ℕ) → Within r.place → SaidFits (said_of r b)
 unfolding said_of
-said_fits r b h =
-    pick_all SaidFits (eqb b 10) _ _
-    (pick_all SaidFits (eqb r.place 2 || eqb r.place 3) _ _ (omega arith) (pick_all SaidFits (eqb r.place 5) _ _ tt tt)) tt
+said_fits r b h = pick_all SaidFits (eqb b 10) _ _ (line_fits r.place h) tt
+  where
+    line_fits : (p : Place) → Within p → SaidFits (line_at p)
+    line_fits LineStart h = tt
+    line_fits Hash h = tt
+    line_fits (Digits t) h = omega arith
+    line_fits Zero h = omega arith
+    line_fits (Level v) h = tt
+    line_fits (Code v c) h = tt
+    line_fits Outside h = tt

@@ -148,5 +148,5 @@ module _ (p : ℕ) where
     text-heard end ls takes none =
         let z : pulses_before (suc p) end - 0 ≡ pulses_before (suc p) end = omega arith in
         by_lines (suc p) f code end started just_enabled (lines_text ls)
-        ∙ ap (heard_lines (suc p) f code end just_enabled) (lines-read (λ (b : ℕ). true) ls started takes).0
+        ∙ ap (heard_lines (suc p) f code end just_enabled) (lines-read (λ (b : ℕ). true) ls false takes).0
         ∙ heard-over end ls just_enabled none ∙ rw z

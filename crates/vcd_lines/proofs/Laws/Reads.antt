@@ -1,7 +1,7 @@
 -- What is written is read: a number in decimal as that number, a line as that line. By induction on the places, and on the lines. Assumes nothing.
 use Prim.Native.Nat.{ℕ, zero, suc, ◌+◌, ◌-◌, ◌*◌, ◌/◌, ◌%◌, ◌^◌, ◌≤◌, ◌<◌}
 use mathlib.Core.Path.{◌≡◌, refl, sym, ◌∙◌, ap}
-use mathlib.Core.Bool.{Bool, true, false}
+use mathlib.Core.Bool.{Bool, true, false, or-false, or-true, false≢true}
 use mathlib.Core.List.{List, [], ◌∷◌, ◌++◌, append-nil, append_assoc}
 use native.Mathlib.Nat.{pow-succ'}
 use native.Mathlib.Omega.{arith}
@@ -13,10 +13,16 @@ use Rattle.text.specs.Decimal.{decimal_of}
 use Rattle.text.proofs.Laws.Decimal.{decimal_last, decimal_more}
 use Rattle.vcd_text.specs.Lines.{Line, line_text, lines_text}
 use Rattle.vcd_text.specs.Lines.Line.{Time, Value}
+use Rattle.vcd_lines.specs.declared.body.Place.{Place}
+use Rattle.vcd_lines.specs.declared.body.Place.TheVariants.{LineStart, Hash, Digits, Zero, Level, Code}
 use Rattle.vcd_lines.specs.declared.body.Reading.{Reading}
 use Rattle.vcd_lines.specs.declared.body.Said.TheVariants.{NoLine}
 use Rattle.text.specs.Numbers.{digit}
-use Rattle.vcd_lines.specs.Body.{placed, timing, time_ended, begun, first_digit, next_digit, must_end, coded, taken_of, said_of, line_of, read_all, lines_read}
+use Rattle.vcd_lines.specs.Body.{begun, first_digit, next_digit, must_end, coded, taken_of, said_of, line_of, read_all, lines_read}
+
+-- a reading in a place, after a time or before the first
+abbrev pub at : Place → Bool → Reading
+at p timed = record { place = p; timed = timed }
 
 -- ---- one piece after the other ----
 
@@ -38,9 +44,9 @@ module _ (known : ℕ → Bool) where
 
   -- ---- a number ----
 
-  -- a reading that stands in this time, or after the time 0
-  abbrev in_number : Reading → ℕ → Reading
-  in_number r n = pick (eqb n 0) (timing r 3 0) (timing r 2 n)
+  -- the place in this time, or after the time 0
+  abbrev in_number : ℕ → Place
+  in_number n = pick (eqb n 0) Zero (Digits n)
 
   no_line : (r : Reading) (b : ℕ) → (b ≡ 10 → ⊥) → line_of (said_of r b) ≡ []
   unfolding said_of pick
@@ -49,18 +55,18 @@ module _ (known : ℕ → Bool) where
   digit-is : (d : ℕ) → d < 10 → digit (48 + d) ≡ true
   digit-is d h = rw (lt-ltb 47 (48 + d) (omega arith), lt-ltb (48 + d) 58 (omega arith))
 
-  first-digit : (r : Reading) (n : ℕ) (k : Bool) → n < 10 → taken_of (placed r 1) (48 + n) k ≡ in_number r n
+  first-digit : (t : Bool) (n : ℕ) (k : Bool) → n < 10 → taken_of (at Hash t) (48 + n) k ≡ at (in_number n) t
   unfolding taken_of first_digit pick
-  first-digit r zero k h = refl
-  first-digit r (suc n) k h =
+  first-digit t zero k h = rw or-false
+  first-digit t (suc n) k h =
       let e : 48 + suc n - 48 ≡ suc n = omega arith in
-      rw (ne_eqb (48 + suc n) 48 (λ (z : 48 + suc n ≡ 48). omega arith), digit-is (suc n) h, e, ne_eqb (suc n) 0 (λ (z : suc n ≡ 0). omega arith))
+      rw (or-false, ne_eqb (48 + suc n) 48 (λ (z : 48 + suc n ≡ 48). omega arith), digit-is (suc n) h, e, ne_eqb (suc n) 0 (λ (z : suc n ≡ 0). omega arith))
 
-  next-digit : (r : Reading) (m d : ℕ) (k : Bool) → d < 10 → m * 10 + d ≤ 4000000000 → taken_of (timing r 2 m) (48 + d) k ≡ timing r 2 (m * 10 + d)
+  next-digit : (t : Bool) (m d : ℕ) (k : Bool) → d < 10 → m * 10 + d ≤ 4000000000 → taken_of (at (Digits m) t) (48 + d) k ≡ at (Digits (m * 10 + d)) t
   unfolding taken_of next_digit pick
-  next-digit r m d k h l =
+  next-digit t m d k h l =
       let e : 48 + d - 48 ≡ d = omega arith in
-      rw (digit-is d h, le-leb m 400000000 (omega arith), e, le-leb (m * 10 + d) 4000000000 l)
+      rw (ne_eqb (48 + d) 10 (λ (z : 48 + d ≡ 10). omega arith), or-false, digit-is d h, le-leb m 400000000 (omega arith), e, le-leb (m * 10 + d) 4000000000 l)
 
   -- two readings one after the other, the first of which ends no line
   record Reads (from : Reading) (text : List ℕ) (to : Reading) (ls : List Line) : Type 0 where
@@ -77,116 +83,87 @@ module _ (known : ℕ → Bool) where
   reads-one : (a : Reading) (x : ℕ) (b : Reading) (ls : List Line) → taken_of a x (known x) ≡ b → line_of (said_of a x) ≡ ls → Reads a (x ∷ []) b ls
   reads-one a x b ls e f = let (r, s) = read_one a x in record { reading = r ∙ e; said = s ∙ f }
 
-  one-digit : (k : ℕ) (r : Reading) (n : ℕ) → n < 10 → Reads (placed r 1) (decimal_of (suc k) n) (in_number r n) []
-  one-digit k r n h =
+  one-digit : (k : ℕ) (t : Bool) (n : ℕ) → n < 10 → Reads (at Hash t) (decimal_of (suc k) n) (at (in_number n) t) []
+  one-digit k t n h =
       rw (decimal_last (suc k) n (λ (z : suc k ≡ 0). omega arith) h)
-      (reads-one (placed r 1) (48 + n) (in_number r n) [] (first-digit r n _ h)
-      (no_line (placed r 1) (48 + n) (λ (z : 48 + n ≡ 10). omega arith)))
+      (reads-one (at Hash t) (48 + n) (at (in_number n) t) [] (first-digit t n _ h)
+      (no_line (at Hash t) (48 + n) (λ (z : 48 + n ≡ 10). omega arith)))
 
-  in-number : (r : Reading) (n : ℕ) → (n ≡ 0 → ⊥) → in_number r n ≡ timing r 2 n
+  in-number : (n : ℕ) → (n ≡ 0 → ⊥) → in_number n ≡ Digits n
   unfolding pick
-  in-number r n h = rw (ne_eqb n 0 h)
+  in-number n h = rw (ne_eqb n 0 h)
 
-  more-digits : (k : ℕ) (r : Reading) (n : ℕ) → 10 ≤ n → n ≤ 4000000000 → Reads (placed r 1) (decimal_of (suc k) (n / 10)) (in_number r (n / 10)) [] → Reads (placed r 1) (decimal_of (suc (suc k)) n) (in_number r n) []
-  more-digits k r n h bound p =
+  more-digits : (k : ℕ) (t : Bool) (n : ℕ) → 10 ≤ n → n ≤ 4000000000 → Reads (at Hash t) (decimal_of (suc k) (n / 10)) (at (in_number (n / 10)) t) []
+      → Reads (at Hash t) (decimal_of (suc (suc k)) n) (at (in_number n) t) []
+  more-digits k t n h bound p =
       let whole : n / 10 * 10 + n % 10 ≡ n = omega arith in
       let e : suc (suc k) - 1 ≡ suc k = omega arith in
-      let first : in_number r (n / 10) ≡ timing r 2 (n / 10) = in-number r (n / 10) (λ (z : n / 10 ≡ 0). omega arith) in
-      let last : taken_of (in_number r (n / 10)) (48 + n % 10) (known (48 + n % 10)) ≡ in_number r n =
-      rw (first, next-digit r (n / 10) (n % 10) (known (48 + n % 10)) (omega arith) (omega arith), whole)
-      (sym (in-number r n (λ (z : n ≡ 0). omega arith))) in
+      let first : in_number (n / 10) ≡ Digits (n / 10) = in-number (n / 10) (λ (z : n / 10 ≡ 0). omega arith) in
+      let last : taken_of (at (in_number (n / 10)) t) (48 + n % 10) (known (48 + n % 10)) ≡ at (in_number n) t =
+      rw (first, next-digit t (n / 10) (n % 10) (known (48 + n % 10)) (omega arith) (omega arith), whole, in-number n (λ (z : n ≡ 0). omega arith)) refl in
       rw (decimal_more (suc (suc k)) n (λ (z : suc (suc k) ≡ 0). omega arith) h, e)
       (reads_then p
-      (reads-one (in_number r (n / 10)) (48 + n % 10) (in_number r n) [] last
-      (no_line (in_number r (n / 10)) (48 + n % 10) (λ (z : 48 + n % 10 ≡ 10). omega arith))))
+      (reads-one (at (in_number (n / 10)) t) (48 + n % 10) (at (in_number n) t) [] last
+      (no_line (at (in_number (n / 10)) t) (48 + n % 10) (λ (z : 48 + n % 10 ≡ 10). omega arith))))
 
-  digits-read : (k : ℕ) (r : Reading) (n : ℕ) → n < 10 ^ suc k → n ≤ 4000000000 → Reads (placed r 1) (decimal_of (suc k) n) (in_number r n) []
-  digits-read zero r n fits bound = one-digit 0 r n fits
-  digits-read (suc k) r n fits bound = go (digits-read k r (n / 10) less (omega arith)) (ltb n 10) refl
+  digits-read : (k : ℕ) (t : Bool) (n : ℕ) → n < 10 ^ suc k → n ≤ 4000000000 → Reads (at Hash t) (decimal_of (suc k) n) (at (in_number n) t) []
+  digits-read zero t n fits bound = one-digit 0 t n fits
+  digits-read (suc k) t n fits bound = go (digits-read k t (n / 10) less (omega arith)) (ltb n 10) refl
     where
       less : n / 10 < 10 ^ suc k
       less = let f : n < 10 * 10 ^ suc k = rw (pow-succ' 10 (suc k)) at fits in omega arith
 
-      go : Reads (placed r 1) (decimal_of (suc k) (n / 10)) (in_number r (n / 10)) [] → (t : Bool) → ltb n 10 ≡ t → Reads (placed r 1) (decimal_of (suc (suc k)) n) (in_number r n) []
-      go p true e = one-digit (suc k) r n (ltb-true n 10 e)
-      go p false e = more-digits k r n (ltb-false n 10 e) bound p
+      go : Reads (at Hash t) (decimal_of (suc k) (n / 10)) (at (in_number (n / 10)) t) [] → (x : Bool) → ltb n 10 ≡ x → Reads (at Hash t) (decimal_of (suc (suc k)) n) (at (in_number n) t) []
+      go p true e = one-digit (suc k) t n (ltb-true n 10 e)
+      go p false e = more-digits k t n (ltb-false n 10 e) bound p
 
   -- ---- a line ----
 
   -- a time's end, after its last digit
-  nought-ends : (r : Reading) (k : Bool) → (taken_of (timing r 3 0) 10 k ≡ time_ended (timing r 0 0)) × (line_of (said_of (timing r 3 0) 10) ≡ Time 0 ∷ [])
-  unfolding taken_of must_end said_of pick
-  nought-ends r k = (refl, refl)
+  time-ends : (t : Bool) (n : ℕ) → Reads (at (in_number n) t) (10 ∷ []) (at LineStart true) (Time n ∷ [])
+  unfolding taken_of must_end next_digit said_of pick
+  time-ends t zero = reads-one (at Zero t) 10 (at LineStart true) (Time 0 ∷ []) (rw or-true) refl
+  time-ends t (suc n) =
+      rw (in-number (suc n) (λ (z : suc n ≡ 0). omega arith))
+      (reads-one (at (Digits (suc n)) t) 10 (at LineStart true) (Time (suc n) ∷ []) (rw or-true) refl)
 
-  number-ends : (r : Reading) (m : ℕ) (k : Bool) → (taken_of (timing r 2 m) 10 k ≡ time_ended (timing r 0 m)) × (line_of (said_of (timing r 2 m) 10) ≡ Time m ∷ [])
-  unfolding taken_of next_digit said_of pick
-  number-ends r m k = (refl, refl)
-
-  time-ends : (r : Reading) (n : ℕ) → Reads (in_number r n) (10 ∷ []) (time_ended (timing r 0 n)) (Time n ∷ [])
-  unfolding pick
-  time-ends r zero =
-      let (a, b) = nought-ends r (known 10) in
-      reads-one (timing r 3 0) 10 (time_ended (timing r 0 0)) (Time 0 ∷ []) a b
-  time-ends r (suc n) =
-      let (a, b) = number-ends r (suc n) (known 10) in
-      rw (in-number r (suc n) (λ (z : suc n ≡ 0). omega arith))
-      (reads-one (timing r 2 (suc n)) 10 (time_ended (timing r 0 (suc n))) (Time (suc n) ∷ []) a b)
-
-  hash-begins : (r : Reading) (k : Bool) → (taken_of (placed r 0) 35 k ≡ placed r 1) × (line_of (said_of (placed r 0) 35) ≡ [])
+  hash-begins : (t k : Bool) → (taken_of (at LineStart t) 35 k ≡ at Hash t) × (line_of (said_of (at LineStart t) 35) ≡ [])
   unfolding taken_of begun said_of pick
-  hash-begins r k = (refl, refl)
+  hash-begins t k = (rw or-false, refl)
 
-  time-line : (r : Reading) (n : ℕ) → n ≤ 4000000000 → Reads (placed r 0) (line_text (Time n)) (time_ended (timing r 0 n)) (Time n ∷ [])
+  time-line : (t : Bool) (n : ℕ) → n ≤ 4000000000 → Reads (at LineStart t) (line_text (Time n)) (at LineStart true) (Time n ∷ [])
   unfolding line_text
-  time-line r n h =
-      let (a, b) = hash-begins r (known 35) in
-      reads_then (reads-one (placed r 0) 35 (placed r 1) [] a b)
-      (reads_then (digits-read 19 r n (omega arith) h) (time-ends r n))
+  time-line t n h =
+      let (a, b) = hash-begins t (known 35) in
+      reads_then (reads-one (at LineStart t) 35 (at Hash t) [] a b)
+      (reads_then (digits-read 19 t n (omega arith) h) (time-ends t n))
 
   -- a value line after a time, of a code that the header has
-  abbrev valued : Reading → ℕ → Bool → Reading
-  valued r c v = record { place = 0; timed = true; time = r.time; level = v; code = c }
+  value-begins : (v k : Bool) → (taken_of (at LineStart true) (digit_of v) k ≡ at (Level v) true) × (line_of (said_of (at LineStart true) (digit_of v)) ≡ [])
+  unfolding taken_of begun said_of pick digit_of
+  value-begins true k = (refl, refl)
+  value-begins false k = (refl, refl)
 
-  -- after its level, and after its code
-  abbrev leveled : Reading → Bool → Reading
-  leveled r v = record { place = 4; timed = true; time = r.time; level = v; code = r.code }
-
-  abbrev coded_as : Reading → ℕ → Bool → Reading
-  coded_as r c v = record { place = 5; timed = true; time = r.time; level = v; code = c }
-
-  value-begins : (r : Reading) (v k : Bool) → r.timed ≡ true → taken_of (placed r 0) (digit_of v) k ≡ leveled r v
-  unfolding taken_of begun pick digit_of
-  value-begins r true k h = rw h
-  value-begins r false k h = rw h
-
-  no-value-yet : (r : Reading) (v : Bool) → line_of (said_of (placed r 0) (digit_of v)) ≡ []
-  unfolding said_of pick digit_of
-  no-value-yet r true = refl
-  no-value-yet r false = refl
-
-  code-follows : (r : Reading) (c : ℕ) (v : Bool) → taken_of (leveled r v) c true ≡ coded_as r c v
-  unfolding taken_of coded pick
-  code-follows r c v = refl
-
-  no-code-yet : (r : Reading) (c : ℕ) (v : Bool) → line_of (said_of (leveled r v) c) ≡ []
-  unfolding said_of pick
-  no-code-yet r c v = go (eqb c 10)
+  code-follows : (c : ℕ) (v : Bool) → (taken_of (at (Level v) true) c true ≡ at (Code v c) true) × (line_of (said_of (at (Level v) true) c) ≡ [])
+  unfolding taken_of coded said_of pick
+  code-follows c v = (refl, go (eqb c 10))
     where
       go : (t : Bool) → line_of (pick t NoLine NoLine) ≡ []
       go true = refl
       go false = refl
 
-  value-ends : (r : Reading) (c : ℕ) (v k : Bool) → (taken_of (coded_as r c v) 10 k ≡ valued r c v) × (line_of (said_of (coded_as r c v) 10) ≡ Value c v ∷ [])
+  value-ends : (c : ℕ) (v k : Bool) → (taken_of (at (Code v c) true) 10 k ≡ at LineStart true) × (line_of (said_of (at (Code v c) true) 10) ≡ Value c v ∷ [])
   unfolding taken_of must_end said_of pick
-  value-ends r c v k = (refl, refl)
+  value-ends c v k = (refl, refl)
 
-  value_line : (r : Reading) (c : ℕ) (v : Bool) → r.timed ≡ true → known c ≡ true → Reads (placed r 0) (line_text (Value c v)) (valued r c v) (Value c v ∷ [])
+  value_line : (c : ℕ) (v : Bool) → known c ≡ true → Reads (at LineStart true) (line_text (Value c v)) (at LineStart true) (Value c v ∷ [])
   unfolding line_text
-  value_line r c v h e =
-      let (a, b) = value-ends r c v (known 10) in
-      let code : taken_of (leveled r v) c (known c) ≡ coded_as r c v = rw e (code-follows r c v) in
-      reads_then (reads-one (placed r 0) (digit_of v) (leveled r v) [] (value-begins r v (known (digit_of v)) h) (no-value-yet r v))
-      (reads_then (reads-one (leveled r v) c (coded_as r c v) [] code (no-code-yet r c v)) (reads-one (coded_as r c v) 10 (valued r c v) (Value c v ∷ []) a b))
+  value_line c v e =
+      let (a, b) = value-begins v (known (digit_of v)) in
+      let (f, g) = code-follows c v in
+      let (p, q) = value-ends c v (known 10) in
+      reads_then (reads-one (at LineStart true) (digit_of v) (at (Level v) true) [] a b)
+      (reads_then (reads-one (at (Level v) true) c (at (Code v c) true) [] (rw e f) g) (reads-one (at (Code v c) true) 10 (at LineStart true) (Value c v ∷ []) p q))
 
   -- ---- lines ----
 
@@ -196,18 +173,20 @@ module _ (known : ℕ → Bool) where
   readable timed (Time t ∷ ls) = (t ≤ 4000000000) × readable true ls
   readable timed (Value c v ∷ ls) = (timed ≡ true) × ((known c ≡ true) × readable timed ls)
 
-  pub lines-read : (ls : List Line) (r : Reading) → readable r.timed ls → (lines_read known (placed r 0) (lines_text ls) ≡ ls) × ((read_all known (placed r 0) (lines_text ls)).place ≡ 0)
+  pub lines-read : (ls : List Line) (t : Bool) → readable t ls
+      → (lines_read known (at LineStart t) (lines_text ls) ≡ ls) × ((read_all known (at LineStart t) (lines_text ls)).place ≡ LineStart)
   unfolding lines_text lines_read read_all readable
-  lines-read [] r h = (refl, refl)
-  lines-read (Time t ∷ ls) r (h, hs) =
-      let p = time-line r t h in
-      let (a, b) = lines-read ls (time_ended (timing r 0 t)) hs in (
-        lines_append (placed r 0) (line_text (Time t)) (lines_text ls) ∙ rw (p.reading, p.said, a),
-        ap (λ (q : Reading). q.place) (read-append (placed r 0) (line_text (Time t)) (lines_text ls)) ∙ rw p.reading b,
+  lines-read [] t h = (refl, refl)
+  lines-read (Time n ∷ ls) t (h, hs) =
+      let p = time-line t n h in
+      let (a, b) = lines-read ls true hs in (
+        lines_append (at LineStart t) (line_text (Time n)) (lines_text ls) ∙ rw (p.reading, p.said, a),
+        ap (λ (q : Reading). q.place) (read-append (at LineStart t) (line_text (Time n)) (lines_text ls)) ∙ rw p.reading b,
       )
-  lines-read (Value c v ∷ ls) r (h, (k, hs)) =
-      let p = value_line r c v h k in
-      let (a, b) = lines-read ls (valued r c v) (rw h at hs) in (
-        lines_append (placed r 0) (line_text (Value c v)) (lines_text ls) ∙ rw (p.reading, p.said, a),
-        ap (λ (q : Reading). q.place) (read-append (placed r 0) (line_text (Value c v)) (lines_text ls)) ∙ rw p.reading b,
+  lines-read (Value c v ∷ ls) true (h, (k, hs)) =
+      let p = value_line c v k in
+      let (a, b) = lines-read ls true hs in (
+        lines_append (at LineStart true) (line_text (Value c v)) (lines_text ls) ∙ rw (p.reading, p.said, a),
+        ap (λ (q : Reading). q.place) (read-append (at LineStart true) (line_text (Value c v)) (lines_text ls)) ∙ rw p.reading b,
       )
+  lines-read (Value c v ∷ ls) false (h, (k, hs)) = absurd (false≢true h)

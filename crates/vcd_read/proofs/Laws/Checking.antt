@@ -8,9 +8,11 @@ use lib.Dec.{eqb, ltb, leb}
 use lib.ListN.{length, drop, get_or, drop_of_length-le}
 use borrow.Author.Tests.{ltb-true, leb-true}
 use Rattle.format.proofs.Laws.Pick.{pick_all, pick_known}
+use Rattle.vcd_lines.specs.declared.body.Place.{Place}
+use Rattle.vcd_lines.specs.declared.body.Place.TheVariants.{LineStart, Hash, Digits, Zero, Level, Code, Outside}
 use Rattle.vcd_lines.specs.declared.body.Reading.{Reading}
 use Rattle.text.specs.Numbers.{digit}
-use Rattle.vcd_lines.specs.Body.{placed, begun, first_digit, time_ended, next_digit, must_end, coded, taken_of}
+use Rattle.vcd_lines.specs.Body.{begun, first_digit, next_digit, must_end, coded, place_after, taken_of}
 use Rattle.vcd_read.specs.declared.checking.Checked.{Checked}
 use Rattle.vcd_read.specs.Scan.{checked_by, checked_of}
 use Rattle.vcd_read.proofs.Laws.Starts.{from}
@@ -32,43 +34,44 @@ checked_end text i known x h = ap (checked_of known x) (drop_of_length-le text h
 
 -- ---- a time stays within its limit ----
 
-abbrev Within : Reading → Type 0
-Within r = r.time ≤ 4000000000
+abbrev pub Within : Place → Type 0
+Within (Digits t) = t ≤ 4000000000
+Within p = Unit {0}
 
-begun_within : (r : Reading) (b : ℕ) → Within r → Within (begun r b)
+end_within : (b : ℕ) → Within (must_end b)
+unfolding must_end
+end_within b = pick_all Within (eqb b 10) _ _ tt tt
+
+begun_within : (b : ℕ) (timed : Bool) → Within (begun b timed)
 unfolding begun
-begun_within r b h = pick_all Within (eqb b 35) _ _ h (pick_all Within (r.timed && (eqb b 48 || eqb b 49)) _ _ h h)
+begun_within b timed = pick_all Within (eqb b 35) _ _ tt (pick_all Within (timed && (eqb b 48 || eqb b 49)) _ _ tt tt)
 
 digit_small : (b : ℕ) → digit b ≡ true → b - 48 ≤ 9
 digit_small b h = let u = ltb-true b 58 ((and-eq-true_iff (ltb 47 b) (ltb b 58)).0 h).1 in omega arith
 
-first_within : (r : Reading) (b : ℕ) → Within r → Within (first_digit r b)
+first_within : (b : ℕ) → Within (first_digit b)
 unfolding first_digit
-first_within r b h =
-    pick_all Within (eqb b 48) _ _ (omega arith)
-    (pick_known Within (digit b) _ _ (λ e. let s = digit_small b e in omega arith) h)
+first_within b =
+    pick_all Within (eqb b 48) _ _ tt
+    (pick_known Within (digit b) _ _ (λ e. let s = digit_small b e in omega arith) tt)
 
-next_within : (r : Reading) (b : ℕ) → Within r → Within (next_digit r b)
+next_within : (t b : ℕ) → Within (next_digit t b)
 unfolding next_digit
-next_within r b h =
+next_within t b =
     pick_all Within (digit b) _ _
-    (pick_all Within (leb r.time 400000000) _ _ (pick_known Within (leb (r.time * 10 + (b - 48)) 4000000000) _ _ (λ e. leb-true _ _ e) h) h)
-    (pick_all Within (eqb b 10) _ _ h h)
+    (pick_all Within (leb t 400000000) _ _ (pick_known Within (leb (t * 10 + (b - 48)) 4000000000) _ _ (λ e. leb-true _ _ e) tt) tt)
+    (end_within b)
 
-end_within : (r then : Reading) (b : ℕ) → Within r → Within then → Within (must_end r then b)
-unfolding must_end
-end_within r then b h k = pick_all Within (eqb b 10) _ _ k h
-
-coded_within : (r : Reading) (b : ℕ) (known : Bool) → Within r → Within (coded r b known)
+place_within : (p : Place) (timed : Bool) (b : ℕ) (known : Bool) → Within (place_after p timed b known)
 unfolding coded
-coded_within r b known h = pick_all Within known _ _ h h
+place_within LineStart timed b known = begun_within b timed
+place_within Hash timed b known = first_within b
+place_within (Digits t) timed b known = next_within t b
+place_within Zero timed b known = end_within b
+place_within (Level v) timed b known = pick_all Within known _ _ tt tt
+place_within (Code v c) timed b known = end_within b
+place_within Outside timed b known = tt
 
-pub time_within : (r : Reading) (b : ℕ) (known : Bool) → Within r → Within (taken_of r b known)
+pub time_within : (r : Reading) (b : ℕ) (known : Bool) → Within (taken_of r b known).place
 unfolding taken_of
-time_within r b known h =
-    pick_all Within (eqb r.place 0) _ _ (begun_within r b h)
-    (pick_all Within (eqb r.place 1) _ _ (first_within r b h)
-    (pick_all Within (eqb r.place 2) _ _ (next_within r b h)
-    (pick_all Within (eqb r.place 3) _ _ (end_within r (time_ended r) b h h)
-    (pick_all Within (eqb r.place 4) _ _ (coded_within r b known h)
-    (pick_all Within (eqb r.place 5) _ _ (end_within r (placed r 0) b h h) h)))))
+time_within r b known = place_within r.place r.timed b known

@@ -3,19 +3,18 @@ use Prim.Native.Nat.{ℕ, ◌+◌, ◌≤◌}
 use mathlib.Core.Path.{◌≡◌, refl, ap}
 use mathlib.Core.Bool.{Bool, true, false}
 use mathlib.Core.List.{List}
-use native.Mathlib.Omega.{arith}
-use lib.Dec.{eqb}
 use lib.ListN.{length, drop, replicate}
 use Rattle.std.specs.Prelude.{Option, None, Some, Result, Ok, Err, IfOk}
 use Rattle.std.specs.Option.{ok_or}
 use Rattle.format.specs.Pick.{pick}
 use Rattle.format.proofs.Laws.Pick.{pick_all}
+use Rattle.vcd_lines.specs.Body.{at_start}
 use Rattle.vcd_read.specs.Wires.{starts, wires_in, wires_over, twice_of, code_named, filled}
 use Rattle.vcd_read.specs.declared.checking.Checked.{Checked}
 use Rattle.vcd_read.specs.declared.scanning.Header.{Header}
 use Rattle.refusal.specs.declared.refusal.Refusal.{Refusal}
 use Rattle.vcd_read.specs.declared.scanning.Scanned.{Scanned}
-use Rattle.refusal.specs.declared.refusal.Refusal.TheVariants.{TextOutside, TimeNotLater}
+use Rattle.refusal.specs.declared.refusal.Refusal.TheVariants.{TextOutside}
 use Rattle.vcd_read.specs.Scan.{open_words, close_words, few, named_header, header_read}
 use Rattle.vcd_read.specs.Scan.{in_table, checked_of, unchecked, judged, scan_with, scan_of}
 use Rattle.vcd_read.proofs.Laws.Table.{table_is, checked_alike}
@@ -83,5 +82,5 @@ or_found (Some g) h e = cc
 pub judged_body : (h : Header) (x : Checked) (n : ℕ) → h.body ≤ n → IfOk (judged h x) (λ (s : Scanned). s.body ≤ n)
 unfolding judged
 judged_body h x n l =
-    pick_all (λ (r : Result Scanned Refusal). IfOk r (λ (s : Scanned). s.body ≤ n)) (eqb x.reading.place 0) _ _
+    pick_all (λ (r : Result Scanned Refusal). IfOk r (λ (s : Scanned). s.body ≤ n)) (at_start x.reading.place) _ _
     (pick_all (λ (r : Result Scanned Refusal). IfOk r (λ (s : Scanned). s.body ≤ n)) x.times.late _ _ tt l) tt

@@ -9,11 +9,11 @@ returns-then-reading-eq1 c = simp c.name_after.ensures (search steps)
 
 pub returns-then-reading-eq2 : goal.returns-then-reading-eq2
 unfolding added_of
-returns-then-reading-eq2 c = simp c.number_after.ensures (search steps)
+returns-then-reading-eq2 c = simp c.number_after-added.ensures (search steps)
 
 pub returns-then-reading-eq3 : goal.returns-then-reading-eq3
 unfolding added_of
-returns-then-reading-eq3 c = simp c.number_after-then-reading-eq3.ensures (search steps)
+returns-then-reading-eq3 c = simp c.number_after-added-then-reading-eq3.ensures (search steps)
 
 pub returns : goal.returns
 unfolding added_of

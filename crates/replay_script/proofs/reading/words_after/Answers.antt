@@ -7,6 +7,6 @@ pub returns-then-words-lt4 : goal.returns-then-words-lt4
 unfolding words_after
 returns-then-words-lt4 c = search steps
 
-pub returns : goal.returns
+pub returns-else-words-lt4 : goal.returns-else-words-lt4
 unfolding words_after
-returns c = search steps
+returns-else-words-lt4 c = search steps

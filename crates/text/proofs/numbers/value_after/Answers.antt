@@ -1,16 +1,37 @@
--- `value_after` meets its contract: each way through the tests is the definition's, where the digit is `digit_value`'s. Assumes nothing.
-use Rattle.format.proofs.Laws.{steps}
+-- `value_after` meets its contract: what does not fit 64 bits is above the most. Assumes nothing.
+use Prim.Native.Nat.{ℕ, ◌+◌, ◌-◌, ◌*◌, ◌≤◌, ◌<◌}
+use mathlib.Core.Path.{◌≡◌, sym, ◌∙◌}
+use native.Mathlib.Omega.{arith}
+use borrow.Author.Tests.{lt-leb, le-leb}
+use Rattle.std.proofs.Common.{Some, None}
+use Rattle.format.proofs.Laws.Pick.{pick_yes, pick_no}
 use Rattle.text.specs.Numbers.{value_after}
 use Rattle.text.proofs.numbers.value_after.Goals as goal
 
-pub returns-then-next-le-MOST : goal.returns-then-next-le-MOST
+above : (n b : ℕ) → 4000000000 < n * 10 + (b - 48) → None ≡ value_after n b
 unfolding value_after
-returns-then-next-le-MOST c = simp (← c.digit_value.ensures) (search steps)
+above n b h = sym (pick_no _ _ _ (lt-leb _ _ h))
 
-pub returns-then-number-le-MOST : goal.returns-then-number-le-MOST
+within : (n b m : ℕ) → m ≡ n * 10 + (b - 48) → m ≤ 4000000000 → Some m ≡ value_after n b
 unfolding value_after
-returns-then-number-le-MOST c = simp (← c.digit_value.ensures) (search steps)
+within n b m e h = rw e (sym (pick_yes _ _ _ (le-leb _ _ (rw e at h))))
 
-pub returns : goal.returns
-unfolding value_after
-returns c = search steps
+pub returns-in_err-checked_mul : goal.returns-in_err-checked_mul
+returns-in_err-checked_mul c = c.from_residual.ensures ∙ above _ _ (omega (arith, c.in_err-checked_mul.ensures))
+
+pub returns-in_err-longer : goal.returns-in_err-longer
+returns-in_err-longer c =
+    let m = c.in_ok-checked_mul.ensures in
+    c.from_residual-in_err-longer.ensures ∙ above _ _ (omega (arith, m, c.in_err-longer.ensures, c.from.ensures, c.digit_value.ensures))
+
+pub returns-then-longer-le-MOST : goal.returns-then-longer-le-MOST
+returns-then-longer-le-MOST c =
+    let m = c.in_ok-checked_mul.ensures in
+    let a = c.in_ok-longer.ensures in
+    within _ _ _ (omega (arith, m, a, c.from.ensures, c.digit_value.ensures)) c.if-longer-le-MOST.true
+
+pub returns-else-longer-le-MOST : goal.returns-else-longer-le-MOST
+returns-else-longer-le-MOST c =
+    let m = c.in_ok-checked_mul.ensures in
+    let a = c.in_ok-longer.ensures in
+    above _ _ (omega (arith, m, a, c.from.ensures, c.digit_value.ensures, c.if-longer-le-MOST.false))

@@ -13,7 +13,7 @@ use Rattle.vcd_capture.proofs.ear.hear_wire.Goals as goal
 
 pub loop-byte-init : goal.loop-byte-init
 loop-byte-init c =
-    (rw c.start-reading.ensures (omega arith), omega arith, omega arith, refl, rw (c.start-reading.ensures, c.drop_assembly.ensures) (left_all _ _ _))
+    (rw c.start-reading.ensures tt, omega arith, omega arith, refl, rw (c.start-reading.ensures, c.drop_assembly.ensures) (left_all _ _ _))
 
 pub loop-byte-preserved : goal.loop-byte-preserved
 loop-byte-preserved c =
@@ -25,7 +25,7 @@ loop-byte-preserved c =
     (said_fits c.loop-byte.reading b c.loop-byte.invariant.0) in
     let told = log_bytes (heard_said x.wire.period x.wire.setting c.loop-byte.ear (said_of c.loop-byte.reading b)) in
     let place = m.puts.ends in (
-      rw c.take-reading.ensures (time_within c.loop-byte.reading b true c.loop-byte.invariant.0),
+      rw c.take-reading.ensures (time_within c.loop-byte.reading b true),
       rw m.ear w.0,
       rw m.ear (omega (arith, w.1)),
       puts_length {x = told} m.puts ∙ c.loop-byte.invariant.3,

@@ -4,12 +4,12 @@ use Rattle.vcd_lines.proofs.body.begin.Goals as goal
 
 pub returns-then-byte-eq35 : goal.returns-then-byte-eq35
 unfolding begun
-returns-then-byte-eq35 c = simp c.place_at.ensures (search steps)
+returns-then-byte-eq35 c = search steps
 
-pub returns-then-reading-byte : goal.returns-then-reading-byte
+pub returns-then-timed-byte : goal.returns-then-timed-byte
 unfolding begun
-returns-then-reading-byte c = search steps
+returns-then-timed-byte c = search steps
 
-pub returns : goal.returns
+pub returns-else-timed-byte : goal.returns-else-timed-byte
 unfolding begun
-returns c = simp c.place_at-2.ensures (search steps)
+returns-else-timed-byte c = search steps

@@ -6,6 +6,6 @@ pub returns-then-byte-eq10 : goal.returns-then-byte-eq10
 unfolding must_end
 returns-then-byte-eq10 c = search steps
 
-pub returns : goal.returns
+pub returns-else-byte-eq10 : goal.returns-else-byte-eq10
 unfolding must_end
-returns c = simp c.place_at.ensures (search steps)
+returns-else-byte-eq10 c = search steps

@@ -1,19 +1,25 @@
+use native.Mathlib.Omega.{arith}
 use Rattle.format.proofs.Laws.{steps}
+use Rattle.format.specs.Pick.{pick}
 use Rattle.vcd_lines.specs.Body.{said_of}
 use Rattle.vcd_lines.proofs.body.say.Goals as goal
 
-pub returns-then-reading : goal.returns-then-reading
+pub returns-then-byte-ne10 : goal.returns-then-byte-ne10
 unfolding said_of
-returns-then-reading c = search steps
+returns-then-byte-ne10 c = search steps
 
-pub returns-then-reading-eq-CODE : goal.returns-then-reading-eq-CODE
+pub returns-in-Digits : goal.returns-in-Digits
 unfolding said_of
-returns-then-reading-eq-CODE c = search steps
+returns-in-Digits c = rw c.in-Digits.is (search steps)
 
-pub returns-else-reading-eq-CODE : goal.returns-else-reading-eq-CODE
+pub returns-in-Zero : goal.returns-in-Zero
 unfolding said_of
-returns-else-reading-eq-CODE c = search steps
+returns-in-Zero c = rw c.in-Zero.is (search steps)
 
-pub returns-else-byte-eq10 : goal.returns-else-byte-eq10
+pub returns-in-Code : goal.returns-in-Code
 unfolding said_of
-returns-else-byte-eq10 c = search steps
+returns-in-Code c = rw c.in-Code.is (search steps)
+
+pub returns-in_default : goal.returns-in_default
+unfolding said_of pick
+returns-in_default c = grind (arith, c.in_default.not-Digits, c.in_default.not-Zero, c.in_default.not-Code)

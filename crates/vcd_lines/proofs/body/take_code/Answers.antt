@@ -6,6 +6,6 @@ pub returns-then-known : goal.returns-then-known
 unfolding coded
 returns-then-known c = search steps
 
-pub returns : goal.returns
+pub returns-else-known : goal.returns-else-known
 unfolding coded
-returns c = simp c.place_at.ensures (search steps)
+returns-else-known c = search steps
