@@ -25,7 +25,8 @@ const SPACE: usize = 2097152;
 // Kept: `replay` has it too; shared, it would be a public function that promises nothing: `Print` tells no bytes.
 fn print_error(errors: &impl Print, line: u64) {
     let mut space = [0u8; 32];
-    let _ = errors.write_all(write_error(line, &mut space));
+    let length = write_error(line, &mut space);
+    let _ = errors.write_all(&space[..length]);
 }
 
 // The list of events, three bytes each, filled from the front of the room for it.

@@ -21,14 +21,16 @@ struct Run {
 fn print_answer(rt: &impl Print, answer: Answer) -> Device {
     let seen = seen_of(answer.number, answer.byte, answer.fresh, answer.lines);
     let mut space = [0u8; 32];
-    let _ = rt.write_all(write_seen(seen, &mut space));
+    let length = write_seen(seen, &mut space);
+    let _ = rt.write_all(&space[..length]);
     answer.state
 }
 
 // Kept: `dump` has it too; shared, it would be a public function that promises nothing: `Print` tells no bytes.
 fn print_error(rt: &impl Print, line: u64) {
     let mut space = [0u8; 32];
-    let _ = rt.write_all(write_error(line, &mut space));
+    let length = write_error(line, &mut space);
+    let _ = rt.write_all(&space[..length]);
 }
 
 // Does what a line says, and prints the answer: of many ticks the last one's.

@@ -2,7 +2,7 @@
 ghost use Rattle.std.specs.Prelude.{◌≡◌, [], ◌∷◌, ◌++◌, ◌+◌, ◌^◌, ◌≤◌, ◌<◌, take};
 ghost use Rattle.text.specs.Decimal.{decimal_of};
 ghost use Rattle.text.specs.Puts.{Puts};
-ghost use Rattle.replay_text.specs.Lines.{flag_text, seen_text, error_text};
+ghost use Rattle.replay_text.specs.Lines.{flag_text, seen_text, error_text, Within};
 
 use records::Seen;
 use text::{level_digit, put, put_bytes, put_decimal};
@@ -29,10 +29,12 @@ fn put_flag(flag: bool, separator: u8, at: usize, space: &mut [u8]) -> usize
     at + 2
 }
 
-// The line of an answer: number, data byte, IRQ, TxDA, TxDB and OP, in decimal, and whether the byte is fresh. The part of
-// the space that has it is handed back.
-pub fn write_seen(seen: Seen, space: &mut [u8; 32]) -> &[u8]
-    ensures { result.now ≡ seen_text seen.number seen.data seen.irq seen.txda seen.txdb seen.op seen.fresh }
+// The line of an answer: number, data byte, IRQ, TxDA, TxDB and OP, in decimal, and whether the byte is fresh.
+// Kept: a length, for the clause `text`: of a slice handed back, `space.new` "has no value after the call".
+pub fn write_seen(seen: Seen, space: &mut [u8; 32]) -> usize
+    ensures within { Within result space.new }
+    ensures text { take result space.new ≡ seen_text seen.number seen.data seen.irq seen.txda seen.txdb seen.op
+        seen.fresh }
 {
     let after_number = put_byte(seen.number, b' ', 0, space);
     let after_byte = put_byte(seen.data, b' ', after_number, space);
@@ -40,16 +42,17 @@ pub fn write_seen(seen: Seen, space: &mut [u8; 32]) -> &[u8]
     let after_txda = put_flag(seen.txda, b' ', after_irq, space);
     let after_txdb = put_flag(seen.txdb, b' ', after_txda, space);
     let after_op = put_byte(seen.op, b' ', after_txdb, space);
-    let end = put_flag(seen.fresh, b'\n', after_op, space);
-    &space[..end]
+    put_flag(seen.fresh, b'\n', after_op, space)
 }
 
 // What is printed for a line that cannot be read: `error line N`.
-pub fn write_error(line: u64, space: &mut [u8; 32]) -> &[u8]
-    ensures { result.now ≡ error_text line }
+// Kept: a length, as `write_seen`'s.
+pub fn write_error(line: u64, space: &mut [u8; 32]) -> usize
+    ensures within { Within result space.new }
+    ensures text { take result space.new ≡ error_text line }
 {
     let begun = put_bytes(b"error line ", 0, space);
     let next = put_decimal(line, 20, begun, space);
     put(b'\n', next, space);
-    &space[..next + 1]
+    next + 1
 }

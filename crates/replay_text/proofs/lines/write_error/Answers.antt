@@ -11,12 +11,10 @@ pub overflow_add-result : goal.overflow_add-result
 overflow_add-result c =
     omega (arith, decimal_within 20 c.args.line, c.put_decimal-next.ensures.ends, c.put_bytes-begun.ensures.ends)
 
-pub shared_ref_as_front-result : goal.shared_ref_as_front-result
-shared_ref_as_front-result c =
-    omega (arith, decimal_within 20 c.args.line, c.put_decimal-next.ensures.ends, c.put_bytes-begun.ensures.ends)
-
 pub returns : goal.returns
 unfolding error_text bytes_of
 returns c =
-    (puts_front (puts_then c.put_bytes-begun.ensures (puts_then c.put_decimal-next.ensures (puts_one _ _ _ _ _ refl c.put.ensures)))
-    (omega (arith, decimal_within 20 c.args.line, c.put_decimal-next.ensures.ends, c.put_bytes-begun.ensures.ends))).1
+    let w = decimal_within 20 c.args.line in
+    let front = puts_front (puts_then c.put_bytes-begun.ensures (puts_then c.put_decimal-next.ensures (puts_one _ _ _ _ _ refl c.put.ensures)))
+    (omega (arith, w, c.put_decimal-next.ensures.ends, c.put_bytes-begun.ensures.ends)) in
+    record { within = front.0; text = front.1 }
