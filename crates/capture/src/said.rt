@@ -34,8 +34,8 @@ pub fn put_said(
 {
     match read_capture(asked, text, name_a, name_b, log_a, log_b) {
         Ok(captured) => {
-            let after_a = put_lines(65, &log_a[..captured.length_a], 0, space);
-            put_lines(66, &log_b[..captured.length_b], after_a, space)
+            let after_a = put_lines(b'A', &log_a[..captured.length_a], 0, space);
+            put_lines(b'B', &log_b[..captured.length_b], after_a, space)
         }
         Err(refusal) => put_refused(refusal.number(), space),
     }

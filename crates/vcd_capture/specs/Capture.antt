@@ -1,7 +1,8 @@
 -- Order 7: "Customers send value change dumps of the real chip's two RxD lines. .. Turn each line, up to the last time, into
 -- characters by document 01's receiver, just enabled, phase 0, for a given MR1, ACR bit 7 and CSR code 0 to 12." Assumes
 -- nothing.
-use Rattle.std.specs.Prelude.{ℕ, ◌+◌, ◌≡◌, Bool, true, ◌||◌, List, [], ◌++◌, eqb, ltb, length, drop, Option, None, Some, Result, Ok, Err}
+use Rattle.std.specs.Prelude.{ℕ, ◌+◌, ◌≡◌, Bool, true, ◌||◌, List, [], ◌++◌, eqb, ltb, length, drop}
+use Rattle.std.specs.Prelude.{Option, None, Some, Result, Ok, Err}
 use Rattle.format.specs.Pick.{pick}
 use Rattle.format.specs.Format.{mr1_not_modelled, format_of}
 use Rattle.feed.specs.declared.feed.Setting.{Setting}
@@ -78,7 +79,8 @@ unfoldable pub log_after : ℕ → List ℕ → List ℕ → List ℕ
 log_after number filled log = pick (eqb number 0) (filled ++ drop (length filled) log) log
 
 -- what is promised of a call: the answer, and both logs whole
-pub record CaptureMet (q : Asked) (text a b before_a before_b after_a after_b : List ℕ) (r : Result Captured Refusal) : Type 0 where
+pub record CaptureMet (q : Asked) (text a b before_a before_b after_a after_b : List ℕ) (r : Result Captured Refusal)
+    : Type 0 where
   pub answer : r ≡ captured_of q text a b (length before_a) (length before_b)
   pub first : after_a ≡ log_after (number_of q text a b (length before_a) (length before_b)) (log_a q text a b) before_a
   pub second : after_b ≡ log_after (number_of q text a b (length before_a) (length before_b)) (log_b q text a b) before_b
