@@ -79,7 +79,8 @@ unfoldable pub log_after : ℕ → List ℕ → List ℕ → List ℕ
 log_after number filled log = pick (eqb number 0) (filled ++ drop (length filled) log) log
 
 -- what is promised of a call: the answer, and both logs whole
-pub record CaptureMet (q : Asked) (text a b before_a before_b after_a after_b : List ℕ) (r : Result Captured Refusal) : Type 0 where
+pub record CaptureMet (q : Asked) (text a b before_a before_b after_a after_b : List ℕ) (r : Result Captured Refusal)
+    : Type 0 where
   pub answer : r ≡ captured_of q text a b (length before_a) (length before_b)
   pub first : after_a ≡ log_after (number_of q text a b (length before_a) (length before_b)) (log_a q text a b) before_a
   pub second : after_b ≡ log_after (number_of q text a b (length before_a) (length before_b)) (log_b q text a b) before_b

@@ -62,7 +62,7 @@ pub fn hear_pulses(
     let mut now_sampler = sampler;
     let mut next = at;
     let mut left = times;
-    // Kept: d, a turn takes a varying number of pulses, so that `left` counts down as no `for` does.
+    // Kept: a `while`, for a turn takes a varying number of pulses, and no range counts them.
     while left > 0 {
         let hopped = hop(now_sampler, level, setting, left);
         next = take_came(hopped.came, next, log);
@@ -92,7 +92,7 @@ pub struct Ear {
 }
 
 // After a line: the receiver, and the place in its log.
-// Kept: d, the place and the log go as `text` takes them, so that each contract is one `Puts` from place to place.
+// Kept: a place beside its log, as `text` takes them, so that each contract is one `Puts` from place to place.
 #[derive(Clone, Copy)]
 pub struct Step {
     pub ear: Ear,
