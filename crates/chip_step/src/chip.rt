@@ -14,6 +14,7 @@ use refusal::Refusal;
 
 // "The answer has the number, the data byte (0 where none is read), IRQ (1 when asserted), TxDA, TxDB, the OP0-OP7
 // levels and the new state."; order 1: "The receive buffer read shall also say fresh or stale".
+// Kept: a number, for document 01 says that the answer has one, and theorems of `demands` name it; `fresh`, as in `Fed`.
 #[repr(C)]
 #[derive(Clone, Copy)]
 pub struct Answer {
@@ -25,6 +26,7 @@ pub struct Answer {
 }
 
 // The new state, before it is looked at, the data byte, and whether it is fresh.
+// Kept: a flag beside the byte, as in `Fed`.
 #[derive(Clone, Copy)]
 pub struct Taken {
     pub state: Device,

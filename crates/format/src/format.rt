@@ -12,6 +12,7 @@ pub struct Format {
     // data bits
     pub width: Bits,
     // 0 with parity, 1 forced, 2 none; 3 is not modelled, and has no parity bit
+    // Kept: a number, for `Format` stands inside `Device` and crosses to C.
     pub parity: u8,
     // odd, or forced high
     pub odd: bool,

@@ -91,6 +91,7 @@ pub fn hand_a(front: Front, handed: SideHanded) -> Handed
     }
 }
 
+// Kept: as `hand_a`.
 pub fn hand_b(front: Front, handed: SideHanded) -> Handed
     ensures { result ≡ handed_b front handed }
 {

@@ -50,6 +50,7 @@ fn take_echo(side: Side, pulse: bool, rxd: bool) -> bool
 }
 
 // "Format and 16X or 1X", as MR1 and the code of a clock stand.
+// Kept: `vcd_capture` has one that is always 16X: shared, it would be a public function for one struct written out.
 fn setting_of(mr1: u8, code: u8) -> Setting
     ensures { result ≡ setting_of mr1 code }
 {

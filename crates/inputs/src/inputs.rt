@@ -102,12 +102,14 @@ fn channel_pins(
 
 // "CTS (if chosen; IP0 for A, IP1 for B)"; "6 RxDA, 7 RxDB"; "receiver on a rising edge (A IP4, B IP2),
 // transmitter on a falling edge (A IP3, B IP5)".
+// Kept: two names of one function, `channel_pins`, with each channel's numbers: `docs/` list both.
 pub fn pins_of_a(before: u8, after: u8) -> ChannelPins
     ensures { result ≡ pins_of_a before after }
 {
     channel_pins(before, after, 0, 6, 4, 3)
 }
 
+// Kept: as `pins_of_a`.
 pub fn pins_of_b(before: u8, after: u8) -> ChannelPins
     ensures { result ≡ pins_of_b before after }
 {

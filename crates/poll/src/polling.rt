@@ -12,6 +12,7 @@ use records::{EventRecord, Seen, event_of, seen_of};
 use refusal::Refusal;
 
 // "the call itself answers 0", or why it is refused; "the count says how many were written"; "the last state"
+// Kept: a number, for document 01 says that an answer has one, and C reads it.
 #[repr(C)]
 #[derive(Clone, Copy)]
 pub struct Polled {

@@ -38,6 +38,7 @@ pub fn is_empty(queue: Queue) -> bool
 }
 
 // "FFULL: three in the queue."
+// Kept: this and `one_waits` are each a test by its name; one with a const parameter would say less.
 pub fn is_full(queue: Queue) -> bool
     ensures { result ≡ is_full_of queue }
 {
@@ -52,6 +53,7 @@ pub fn oldest(queue: Queue) -> Character
 }
 
 // Whether a character waits.
+// Kept: as `is_full`.
 pub fn one_waits(queue: Queue) -> bool
     ensures { result ≡ waits_of queue }
 {

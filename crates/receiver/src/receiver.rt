@@ -9,6 +9,7 @@ use receiver_commands::{take_effect, take_enabling};
 use receiver_state::{Receiver, fresh_receiver, oldest_marks, pulse};
 
 // The receiver after a feed, and what a read answers: the byte, 0 where none is read, and whether it is fresh.
+// Kept: a flag beside the byte and no Option, for a stale read has a byte too: "repeats the last byte read".
 #[derive(Clone, Copy)]
 pub struct Fed {
     pub receiver: Receiver,

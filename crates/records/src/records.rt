@@ -10,6 +10,7 @@ use events::Event;
 #[repr(C)]
 #[derive(Clone, Copy)]
 pub struct EventRecord {
+    // Kept: a number, for C writes it.
     pub kind: u8,
     // the register of a read or a write
     pub reg: u8,
@@ -19,6 +20,7 @@ pub struct EventRecord {
 
 // "The answer has the number, the data byte (0 where none is read), IRQ (1 when asserted), TxDA, TxDB, the OP0-OP7
 // levels": all of it but the new state. Order 1: "The receive buffer read shall also say fresh or stale".
+// Kept: a number, and a flag beside the byte, for C reads them.
 #[repr(C)]
 #[derive(Clone, Copy)]
 pub struct Seen {

@@ -7,6 +7,7 @@ use frame::{frame_bits, frame_length, level_of};
 use refusal::Refusal;
 
 // What a frame request answers: the number of document 01's table, and the pulses written.
+// Kept: a number, and a struct of its own beside `DumpAnswer` and `CaptureAnswer`, for C names it and reads it.
 #[repr(C)]
 #[derive(Clone, Copy)]
 pub struct FrameAnswer {

@@ -77,6 +77,7 @@ fn assemble(sampler: Sampler, level: bool) -> Sampled
 }
 
 // One pulse of the receiver's clock: the level of the line, and the setting as it stands.
+// Kept: a switch by number, for `phase` stands inside `Device`, where no closure and no enum can.
 pub fn sample(sampler: Sampler, level: bool, setting: Setting) -> Sampled
     ensures { result ≡ sample_of sampler level setting }
 {

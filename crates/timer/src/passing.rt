@@ -7,6 +7,7 @@ use dividers::FAR_OFF;
 use format::Ticks;
 use timer_state::{Timer, is_timer, tick_pulses};
 
+// Kept: `mode` is a number, for `timer_room` and `pass_timer`, which docs/ list, take those above 7 too.
 // A counter takes a pulse only while it runs; "Timer: always runs".
 fn runs(timer: Timer, mode: u8) -> bool
     ensures { result ≡ runs_in timer mode }

@@ -9,6 +9,7 @@ use timer_state::{
     Counted, Timer, edge_pulses, is_timer, mode_of, pulse_by, tick_pulses, transmitter_pulses,
 };
 
+// Kept: `mode` is a number here and below, for these routines, which docs/ list, take those above 7 too.
 // A tick of the crystal. "Both /16 phases always run": in every mode.
 pub fn step_by_tick(timer: Timer, mode: u8) -> Counted
     ensures { result ≡ ticked_by timer mode }

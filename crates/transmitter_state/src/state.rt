@@ -37,6 +37,7 @@ pub const AFTER_BREAK: u8 = 3;
 pub struct Transmitter {
     pub enabled: bool,
     // the holding place is full
+    // Kept: a flag beside the byte, for `Transmitter` stands inside `Device` and crosses to C.
     pub full: bool,
     // what it holds
     pub holding: u8,

@@ -12,11 +12,21 @@ returns-then-mr1_not_modelled-mr2_not_modelled c =
 pub returns-then-space-pulses : goal.returns-then-space-pulses
 unfolding first_refusal answer_of request_of pick
 returns-then-space-pulses c =
-    rw (← c.mr1_not_modelled.ensures, ← c.mr2_not_modelled.ensures, c.if-mr1_not_modelled-mr2_not_modelled.false,
-      ← c.frame_length-pulses.ensures, lt-ltb _ _ c.if-space-pulses.true)
+    rw (
+      ← c.mr1_not_modelled.ensures,
+      ← c.mr2_not_modelled.ensures,
+      c.if-mr1_not_modelled-mr2_not_modelled.false,
+      ← c.frame_length-pulses.ensures,
+      lt-ltb _ _ c.if-space-pulses.true,
+    )
 
 pub returns : goal.returns
 unfolding first_refusal answer_of request_of pick
 returns c =
-    rw (← c.mr1_not_modelled.ensures, ← c.mr2_not_modelled.ensures, c.if-mr1_not_modelled-mr2_not_modelled.false,
-      ← c.frame_length-pulses.ensures, le-ltb _ _ c.if-space-pulses.false)
+    rw (
+      ← c.mr1_not_modelled.ensures,
+      ← c.mr2_not_modelled.ensures,
+      c.if-mr1_not_modelled-mr2_not_modelled.false,
+      ← c.frame_length-pulses.ensures,
+      le-ltb _ _ c.if-space-pulses.false,
+    )
