@@ -19,20 +19,15 @@ LINES = [
     ("1", "a number for a refusal", True,
      r"\b(pub )?number: u8\b(?!\) -> bool)|fn \w*refusal\w*\(.*-> u8|\brefuse\(([a-z_]+, )?\d+\)|\bnumber: [1-9]\b|\brow\(\w+, \d"
      r"|^const (ACCEPTED|NOT_MODELLED|SPACE_SHORT)\b|answer\.number = [1-9]|return [1-9];$"),
-    ("1", "a flag with a value beside it", False, r"^    (pub )?(some|here|inside|more|go|fresh|full|timed): bool"),
+    ("1", "a flag with a value beside it", False, r"^    (pub )?(some|here|more|go|fresh): bool|^    pub inside: bool,$|^    pub full: bool,$"),
     ("1", "a value that stands for none", False,
      r"^(pub )?const (MUCH|NO_NUMBER|LONG): |^// The code of the wire of this name, 0|: 0 where there is none, or|; 0 where (the nine|both|nothing)"
      r"|^// Rounded to the nearest; 0 where|: 0 where none is read\.$"),
     ("2", "the same for another channel, program or register", False,
      r"fn (hand_[ab]|take_bytes|take_chunk|take_all|print_error|setting_of|print_(low|high)_(read|write))\(|^fn turn\(.*input"),
     ("3", "a loop by hand", False, r"^ *while "),
-    ("4", "a bool as a number", False, r"if \w+ \{ (1|weight|49) \} else \{ (0|48) \}|fn (weight_of|marks_byte|level_text)\("),
-    ("4", "arithmetic that the library has", False,
-     r"std::num::|u32::count_ones|fn (least|pulses_left|count_down|line_after|words_after|difference|pass|left_after)\("),
-    ("4", "a test of bytes that the library has", False, r"fn (is_digit|digit_value|is_visible|is_blank|starts_at)\("),
-    ("4", "one record made of another", False,
-     r"fn (event_of|record_of|seen_of|seen_in|polled_seen|ran_seen|capture_seen|one_pulse|look_at|wish_of)\("),
-    ("4", "printing", False, r"fn (print_number|print_byte|print_thousandths|print_tenths|print_level|put_decimal|put_byte|put_flag)\("),
+    ("4", "arithmetic that the library has", False, r"std::num::|u32::count_ones"),
+    ("4", "printing by hand", False, r"fn (print_number|print_byte|print_thousandths|print_tenths|print_level|put_decimal)\("),
     ("5", "a place in a text beside it", False, r"requires \{ \(?at ≤ length text"),
     ("5", "a place in lent space beside it", False, r"requires \{ \(?\(?(wave\.)?at \+ "),
     ("5", "parameters that travel together", False, r"requires \{ Lent |fn (show_txd|hear_until|hear_said|write_seen|exact_rate)\(|^pub fn (write_seen|hear_wire|hear_pulses)\($"),
@@ -41,6 +36,16 @@ LINES = [
     ("6", "a table of numbers for tests; numbered places for a buffer", False, r"\[0u8; 256\]|^    pub count: u8"),
     ("7", "a switch on which step to run", False,
      r"\bwatch: bool\) -> (bool|Spent)|fn (has_first|first_event|last_event|sample)\(|fn is_over\(wish"),
+]
+
+
+# the same of functions by their names, where the body has none of the library's words
+LIBRARY = r"u8::from|is_ascii|matches!|starts_with|\.min\(|saturating_|wrapping_|checked_|abs_diff"
+FUNCTIONS = [
+    ("4", "a bool as a number", "weight_of|marks_byte|level_text|level_byte|level_digit|weight|bit_of"),
+    ("4", "arithmetic that the library has", "least|pulses_left|count_down|line_after|words_after|difference|pass|left_after"),
+    ("4", "a test of bytes that the library has", "is_digit|digit_value|is_visible|is_blank|starts_at"),
+    ("4", "one record made of another", "event_of|record_of|seen_of|seen_in|polled_seen|ran_seen|capture_seen|one_pulse|look_at|wish_of"),
 ]
 
 
@@ -96,10 +101,16 @@ def main():
         for point, what, family, pattern in LINES:
             rows = [i for i, line in enumerate(lines) if re.search(pattern, line) and not ("Kept:" in line)]
             rows = [i for i in rows if not lines[i].lstrip().startswith("//") or what.startswith("a value")]
+            if what.startswith("a flag"):  # "inside" a word, and FFULL, say nothing of a value beside them
+                rows = [i for i in rows if not re.match(r"crates/(replay_script|receiver_status)/", path)]
             if family and rows:
                 found.setdefault((point, what), []).append((path, rows[0], f"{len(rows)} rows, the first: {lines[rows[0]].strip()}", any(kept(lines, i) for i in rows)))
             elif rows:
                 found.setdefault((point, what), []).extend((path, i, lines[i].strip(), kept(lines, i)) for i in rows)
+        for point, what, names in FUNCTIONS:
+            for i, body in items(lines, rf"^(pub )?fn ({names})\("):
+                if "(register: u16" not in body[0] and not re.search(LIBRARY, " ".join(body)):
+                    found.setdefault((point, what), []).append((path, i, body[0], kept(lines, i)))
         for i, body in items(lines, r"^(pub )?enum "):
             cases = [b for b in body[1:-1] if re.match(r"^    [A-Z]", b)]
             bare = [b for b in cases if "(" not in b and "{" not in b]

@@ -21,6 +21,7 @@ use vcd_capture::{Asked, Captured, read_capture};
 use vcd_dump::{DumpAnswer, dump};
 
 // order 5: "the count says how many were written, and the call itself answers 0", or why it is refused.
+// Kept: a number, for C reads it.
 #[repr(C)]
 #[derive(Clone, Copy)]
 pub struct PolledSeen {
@@ -29,6 +30,7 @@ pub struct PolledSeen {
 }
 
 // order 5: "reports how many ticks it took"; "state and lines equal the single ticks".
+// Kept: a number, for C reads it.
 #[repr(C)]
 #[derive(Clone, Copy)]
 pub struct RanSeen {
@@ -42,6 +44,7 @@ pub struct RanSeen {
 }
 
 // order 7: the number, and the length of "the filled part of that channel's log".
+// Kept: a number and a length, and a struct of its own beside `FrameAnswer` and `DumpAnswer`, for C names it.
 #[repr(C)]
 #[derive(Clone, Copy)]
 pub struct CaptureAnswer {
@@ -166,6 +169,7 @@ pub extern "C" fn duart_dump_bytes(device: Device, events: &[u8], space: &mut [u
     dump(device, events, space)
 }
 
+// Kept: a function, for it takes the channel too, as no From does.
 fn capture_seen(captured: Result<Captured, Refusal>, channel_b: bool) -> CaptureAnswer
     ensures { result ≡ capture_seen captured channel_b }
 {

@@ -93,6 +93,7 @@ fn take_all(errors: &impl Print, input: impl Read + Drop, events: &mut Events<'_
 }
 
 // A refusal is told on standard error, `refused 9` or `refused 8`; nothing is written to standard output then.
+// Kept: the number, for it is printed.
 fn refuse(errors: &impl Print, number: u8) {
     let _ = errors.print(format_args!("refused {number}\n"));
 }

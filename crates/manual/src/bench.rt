@@ -34,7 +34,7 @@ fn take(bench: Bench, event: Event) -> Bench {
 }
 
 fn weight(level: bool, weight: u8) -> u8 {
-    if level { weight } else { 0 }
+    u8::from(level) * weight
 }
 
 // RxDA and RxDB, bits 6 and 7, as the wires have them.

@@ -5,6 +5,7 @@ use crate::word::{Channel, Word, agrees};
 use chip_step::Answer;
 use events::Event;
 
+// Kept: the number, for it is printed.
 fn print_refusal(rt: &impl Print, number: u8) {
     if number != 0 {
         print(rt, format_args!(" refused with {number}"));

@@ -24,6 +24,7 @@ use events::Event;
 #[derive(Clone, Copy)]
 pub enum Word {
     // an event of the processor, and what it should be answered with: the byte is 0 where none is read
+    // Kept: the number, for a script's word gives it.
     Access { event: Event, number: u8, byte: u8 },
     Pins(u8),
     Ticks(u64),

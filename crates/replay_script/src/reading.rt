@@ -86,7 +86,7 @@ fn comment_after(reading: Reading, byte: u8) -> bool
 }
 
 // How many words have begun, with one more.
-// Kept: (d) `min(4)` would take 5 to 4, where `words_after` says that it stays.
+// Kept: `min(4)` would take 5 to 4, where `words_after` says that it stays.
 fn words_after(words: u8) -> u8
     ensures { result ≡ words_after words }
 {

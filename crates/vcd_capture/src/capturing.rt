@@ -18,12 +18,14 @@ pub struct Asked {
 }
 
 // How much of each log is filled.
+// Kept: lengths beside the logs, for a slice handed back would leave no clause on `log_a.new` and `log_b.new`.
 #[derive(Clone, Copy)]
 pub struct Captured {
     pub length_a: usize,
     pub length_b: usize,
 }
 
+// Kept: `front_side_clocks` has one by the code: shared, it would be a public function for one struct written out.
 fn setting_of(mr1: u8) -> Setting
     ensures { result ≡ setting_of mr1 }
 {

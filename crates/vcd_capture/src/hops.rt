@@ -21,6 +21,7 @@ pub struct Hopped {
     pub pulses: u64,
 }
 
+// Kept: a function, for its name says how many pulses it was, as `Hopped::from(sampled)` would not.
 fn one_pulse(sampled: Sampled) -> Hopped
     ensures { result ≡ one_pulse sampled }
 {
