@@ -27,6 +27,7 @@ impl Page {
     pub fn is_history(&self) -> bool {
         self.path == "CHANGELOG.md"
             || self.path == "docs/PORT.md"
+            || self.path == "docs/DESIGN-PASS.md"
             || self.path.starts_with("docs/landings/")
     }
 
