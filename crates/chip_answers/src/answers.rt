@@ -109,7 +109,7 @@ fn register_data(front: Front, a: Shown, b: Shown, first: u8, second: u8, regist
 }
 
 // "the data byte (0 where none is read)"; "acknowledge then reads IVR"
-// Kept: the bytes here and the flags in `event_fresh`, for these two routines, which docs/ list, take them so.
+// Kept: bytes here and flags in `event_fresh`: two routines, for each has an edit that is refused at its own clause.
 pub fn event_data(front: Front, a: Shown, b: Shown, first: u8, second: u8, event: Event) -> u8
     ensures { result ≡ event_data front a b first second event }
 {
