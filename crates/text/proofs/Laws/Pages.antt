@@ -5,7 +5,7 @@ use mathlib.Core.List.{List, [], ◌++◌}
 use lib.ListN.{length, take}
 use Rattle.text.specs.declared.putting.Page.{Page}
 use Rattle.text.specs.Puts.{Puts, Writes}
-use Rattle.text.proofs.Laws.Puts.{puts_none, puts_then, puts_front, puts_as, Left, left_all, left_as, left_then, left_none}
+use Rattle.text.proofs.Laws.Puts.{puts_none, puts_then, puts_front, puts_as, Left, left_all, left_as, left_then, left_last, left_none}
 
 pub writes_none : (p : Page) → Writes [] p p
 writes_none p = record { same = refl; puts = puts_none p.at p.space.now }
@@ -32,6 +32,10 @@ remains_as {whole} {x} {y} {p} {q} e h = record { same = h.same; left = left_as 
 -- one piece more
 pub remains_then : {whole x y : List ℕ} {p q r : Page} → Remains whole p (x ++ y) q → Writes x q r → Remains whole p y r
 remains_then {whole} {x} {y} {p} {q} {r} h w = record { same = w.same ∙ h.same; left = left_then h.left w.puts }
+
+-- the last piece
+pub remains_last : {whole x : List ℕ} {p q r : Page} → Remains whole p x q → Writes x q r → Writes whole p r
+remains_last {whole} {x} {p} {q} {r} h w = record { same = w.same ∙ h.same; puts = left_last h.left w.puts }
 
 pub remains_none : {whole : List ℕ} {p q : Page} → Remains whole p [] q → Writes whole p q
 remains_none {whole} {p} {q} h = record { same = h.same; puts = left_none h.left }

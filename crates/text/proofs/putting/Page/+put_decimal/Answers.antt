@@ -14,19 +14,19 @@ returns-then-places-eq0 t c =
 
 pub put-requires : goal.put-requires
 put-requires t c = elim c.if-number-ge10.branch [
-  then-number-ge10 w ↦
-    let d = decimal_within (c.args.places - 1) (c.args.number / 10) in
-    rw w.self-is (omega (arith, d, w.put_decimal.ensures.puts.ends))
+  | then-number-ge10 w ↦
+      let d = decimal_within (c.args.places - 1) (c.args.number / 10) in
+      rw w.self-is (omega (arith, d, w.put_decimal.ensures.puts.ends))
   | else-number-ge10 w ↦ rw w.self-is (omega arith)
 ]
 
 pub returns : goal.returns
 returns t c =
     let a = c.args in elim c.if-number-ge10.branch [
-      then-number-ge10 w ↦
-        writes_as (sym (decimal_more a.places a.number (omega arith) (omega arith)))
-        (writes_then w.put_decimal.ensures (rw w.self-is at c.put.ensures))
+      | then-number-ge10 w ↦
+          writes_as (sym (decimal_more a.places a.number (omega arith) (omega arith)))
+          (writes_then w.put_decimal.ensures (rw w.self-is at c.put.ensures))
       | else-number-ge10 w ↦
-        let few : a.number % 10 ≡ a.number = omega arith in
-        writes_as (sym (decimal_last a.places a.number (omega arith) (omega arith))) (rw (w.self-is, few) at c.put.ensures)
+          let few : a.number % 10 ≡ a.number = omega arith in
+          writes_as (sym (decimal_last a.places a.number (omega arith) (omega arith))) (rw (w.self-is, few) at c.put.ensures)
     ]
