@@ -1,30 +1,28 @@
 // For each character a line `A DATA MARKS`, both in decimal.
 ghost use Rattle.std.specs.Prelude.{◌+◌, ◌*◌, ◌^◌, ◌<◌, length};
-ghost use Rattle.text.specs.Puts.{Puts};
+ghost use Rattle.text.specs.Puts.{Writes};
 ghost use Rattle.capture.specs.Lines.{character_line, character_lines};
 
 use replay_text::put_byte;
-use text::put;
+use text::Page;
 
-fn put_line(letter: u8, data: u8, marks: u8, at: usize, space: &mut [u8]) -> usize
-    requires { at + 10 < 2 ^ 64 }
-    ensures { Puts at (character_line letter «data» marks) space.old space.new result }
+fn put_line(letter: u8, data: u8, marks: u8, page: &mut Page<'_>)
+    requires { page.old.at + 10 < 2 ^ 64 }
+    ensures { Writes (character_line letter «data» marks) page.old page.new }
 {
-    put(letter, at, space);
-    put(b' ', at + 1, space);
-    let next = put_byte(data, b' ', at + 2, space);
-    put_byte(marks, b'\n', next, space)
+    page.put(letter);
+    page.put(b' ');
+    put_byte(data, b' ', page);
+    put_byte(marks, b'\n', page);
 }
 
 // The lines of a channel, one for each two bytes of its log.
-pub fn put_lines(letter: u8, log: &[u8], at: usize, space: &mut [u8]) -> usize
-    requires { at + 5 * length log.now < 2 ^ 64 }
-    ensures { Puts at (character_lines letter log.now) space.old space.new result }
+pub fn put_lines(letter: u8, log: &[u8], page: &mut Page<'_>)
+    requires { page.old.at + 5 * length log.now < 2 ^ 64 }
+    ensures { Writes (character_lines letter log.now) page.old page.new }
 {
-    let mut next = at;
     let (characters, _) = log.as_chunks::<2>();
     for &[data, marks] in characters {
-        next = put_line(letter, data, marks, next, space);
+        put_line(letter, data, marks, page);
     }
-    next
 }

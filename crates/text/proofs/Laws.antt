@@ -2,4 +2,5 @@
 pub mod Chunks
 pub mod Decimal
 pub mod Digits
+pub mod Pages
 pub mod Puts

@@ -6,4 +6,4 @@ mod numbers;
 mod putting;
 
 pub use numbers::{MOST, digit_value, is_digit, number_after};
-pub use putting::{level_digit, put, put_bytes, put_decimal};
+pub use putting::{Page, level_digit, put};

@@ -1,8 +1,8 @@
 // Bytes and numbers put from a place on.
-ghost use Rattle.std.specs.Prelude.{◌≡◌, ◌+◌, ◌^◌, ◌<◌, length, set};
+ghost use Rattle.std.specs.Prelude.{◌≡◌, [], ◌∷◌, ◌+◌, ◌^◌, ◌<◌, length, set};
 ghost use Rattle.format.specs.Digits.{digit_of};
 ghost use Rattle.text.specs.Decimal.{decimal_of};
-ghost use Rattle.text.specs.Puts.{Puts};
+ghost use Rattle.text.specs.Puts.{Writes};
 
 // One byte, at this place.
 pub fn put(byte: u8, at: usize, space: &mut [u8])
@@ -13,17 +13,6 @@ pub fn put(byte: u8, at: usize, space: &mut [u8])
     }
 }
 
-// Bytes one after the other, from this place on.
-pub fn put_bytes(bytes: &[u8], at: usize, space: &mut [u8]) -> usize
-    requires { at + length bytes.now < 2 ^ 64 }
-    ensures { Puts at bytes.now space.old space.new result }
-{
-    for (i, byte) in bytes.iter().enumerate() {
-        put(*byte, at + i, space);
-    }
-    at + bytes.len()
-}
-
 // A level as text: 1 is high.
 pub fn level_digit(level: bool) -> u8
     ensures { result ≡ digit_of level }
@@ -31,20 +20,46 @@ pub fn level_digit(level: bool) -> u8
     b'0' + u8::from(level)
 }
 
-// A number in decimal that has at most so many places.
-// Kept: a recursion, not the kit's `itoa`: the edit `digits_by_nines` takes the last digit by 9, and places cut the text.
-pub fn put_decimal(number: u64, places: usize, at: usize, space: &mut [u8]) -> usize
-    requires { at + places < 2 ^ 64 }
-    ensures { Puts at (decimal_of places number) space.old space.new result }
-{
-    if places == 0 {
-        return at;
+// Lent space, and the place in it that the text has come to.
+#[derive(Drop)]
+pub struct Page<'a> {
+    pub space: &'a mut [u8],
+    pub at: usize,
+}
+
+impl Page<'_> {
+    // One byte.
+    pub fn put(&mut self, byte: u8)
+        requires { self.old.at + 1 < 2 ^ 64 }
+        ensures { Writes (byte ∷ []) self.old self.new }
+    {
+        put(byte, self.at, self.space);
+        self.at += 1;
     }
-    if number < 10 {
-        put(b'0' + number as u8, at, space);
-        return at + 1;
+
+    // Bytes one after the other.
+    pub fn put_bytes(&mut self, bytes: &[u8])
+        requires { self.old.at + length bytes.now < 2 ^ 64 }
+        ensures { Writes bytes.now self.old self.new }
+    {
+        for byte in bytes {
+            self.put(*byte);
+        }
     }
-    let last = put_decimal(number / 10, places - 1, at, space);
-    put(b'0' + (number % 10) as u8, last, space);
-    last + 1
+
+    // A number in decimal that has at most so many places.
+    // Kept: a recursion, not the kit's `itoa`: the edit `digits_by_nines` takes the last digit by 9, and places cut the
+    // text.
+    pub fn put_decimal(&mut self, number: u64, places: usize)
+        requires { self.old.at + places < 2 ^ 64 }
+        ensures { Writes (decimal_of places number) self.old self.new }
+    {
+        if places == 0 {
+            return;
+        }
+        if number >= 10 {
+            self.put_decimal(number / 10, places - 1);
+        }
+        self.put(b'0' + (number % 10) as u8);
+    }
 }

@@ -8,7 +8,8 @@ use Rattle.chip_answers.specs.declared.answers.Lines.{Lines}
 use Rattle.chip_device.specs.declared.device.Device.{Device}
 use Rattle.chip_step.specs.Chip.{step_of}
 use Rattle.records.specs.declared.records.EventRecord.{EventRecord}
-use Rattle.text.specs.Puts.{Puts}
+use Rattle.text.specs.declared.putting.Page.{Page}
+use Rattle.text.specs.Puts.{Writes}
 use Rattle.vcd_text.specs.Changes.{waves_text}
 use Rattle.vcd_text.specs.Words.{written_before, changes_text}
 use Rattle.vcd_dump.specs.declared.waves.Wave.{Wave}
@@ -23,19 +24,18 @@ record_at bytes i =
 abbrev pub end_text : Wave → List ℕ
 end_text w = changes_text w.tick w.before w.values
 
--- after an accepted event, the writing having come to a place: a tick begins a time of its own
-unfoldable pub wave_after : Wave → Bool → Lines → ℕ → Wave
-wave_after w tick l at =
+-- after an accepted event: a tick begins a time of its own
+unfoldable pub wave_after : Wave → Bool → Lines → Wave
+wave_after w tick l =
     record {
       tick = pick tick (w.tick + 1) w.tick;
       before = pick tick w.values w.before;
       values = value_of (values_of l);
-      at = at;
     }
 
-pub record Adds (w : Wave) (tick : Bool) (l : Lines) (before after : List ℕ) (r : Wave) : Type 0 where
-  pub wave : r ≡ wave_after w tick l r.at
-  pub puts : Puts w.at (pick tick (end_text w) []) before after r.at
+pub record Adds (w : Wave) (tick : Bool) (l : Lines) (before after : Page) (r : Wave) : Type 0 where
+  pub wave : r ≡ wave_after w tick l
+  pub writes : Writes (pick tick (end_text w) []) before after
 
 -- the text that is left of a wave, from a device and the events that are left
 unfoldable pub rest_of : Wave → Device → List Event → List ℕ

@@ -11,16 +11,16 @@ use chip_answers::Lines;
 use chip_device::{Device, device_lines};
 use chip_fast::sound_step;
 use records::{EventRecord, event_of};
+use text::Page;
 use vcd_text::{put_changes, put_header};
 
 // Where the writing stands: at the time of which tick, the values written before it and those it has now, a bit for
-// each wire, and the place in the space.
+// each wire.
 #[derive(Clone, Copy)]
 pub struct Wave {
     pub tick: u32,
     pub before: u16,
     pub values: u16,
-    pub at: usize,
 }
 
 // "TxDA, TxDB, IRQ as line level (asserted is 0) and OP0 to OP7", the first the lowest bit
@@ -35,19 +35,18 @@ fn values_of(lines: Lines) -> u16
 
 // After an accepted event. "Events without a tick share the time of the last one; at each time only the last values
 // count": a tick ends the time before it.
-fn add_event(wave: Wave, tick: bool, lines: Lines, space: &mut [u8]) -> Wave
-    requires { (wave.at + 55 < 2 ^ 64) × (wave.before < 2 ^ 11) × (wave.values < 2 ^ 11)
+fn add_event(wave: Wave, tick: bool, lines: Lines, page: &mut Page<'_>) -> Wave
+    requires { (page.old.at + 55 < 2 ^ 64) × (wave.before < 2 ^ 11) × (wave.values < 2 ^ 11)
         × (wave.tick + 1 < 2 ^ 32) }
-    ensures { Adds wave tick lines space.old space.new result }
+    ensures { Adds wave tick lines page.old page.new result }
 {
     let values = values_of(lines);
     if tick {
-        let at = put_changes(wave.tick, wave.before, wave.values, wave.at, space);
+        put_changes(wave.tick, wave.before, wave.values, page);
         return Wave {
             tick: wave.tick + 1,
             before: wave.values,
             values,
-            at,
         };
     }
     Wave { values, ..wave }
@@ -58,12 +57,11 @@ pub fn write_waves(device: Device, events: &[u8], space: &mut [u8]) -> usize
     requires { (is_sound_of device ≡ true) × (length events.now / 3 ≤ 1000000) }
     ensures { Puts 0 (text_of device events.now) space.old space.new result }
 {
-    let begun = put_header(space);
+    let mut page = put_header(space);
     let mut wave = Wave {
         tick: 0,
         before: 0,
         values: values_of(device_lines(device)),
-        at: begun,
     };
     let mut state = device;
     let (records, _) = events.as_chunks::<3>();
@@ -71,10 +69,12 @@ pub fn write_waves(device: Device, events: &[u8], space: &mut [u8]) -> usize
         let event = EventRecord { kind, reg, byte };
         let answer = sound_step(state, event_of(event));
         if answer.number != 0 {
-            return put_changes(wave.tick, wave.before, wave.values, wave.at, space);
+            put_changes(wave.tick, wave.before, wave.values, &mut page);
+            return page.at;
         }
-        wave = add_event(wave, kind == 5, answer.lines, space);
+        wave = add_event(wave, kind == 5, answer.lines, &mut page);
         state = answer.state;
     }
-    put_changes(wave.tick, wave.before, wave.values, wave.at, space)
+    put_changes(wave.tick, wave.before, wave.values, &mut page);
+    page.at
 }

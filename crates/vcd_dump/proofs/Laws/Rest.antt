@@ -66,11 +66,11 @@ module _ (w : Wave) (d : Device) (now : w.values ≡ value_of (values_of (device
   rest-refused e es h = rw (ne_eqb (step_of d e).number 0 h) ended-last
 
   -- an accepted event: a tick ends the time, another event leaves it
-  pub rest-next : (e : Event) (es : List Event) (at : ℕ) → (step_of d e).number ≡ 0
+  pub rest-next : (e : Event) (es : List Event) → (step_of d e).number ≡ 0
       → rest_of w d (e ∷ es)
-      ≡ pick (is_tick e) (end_text w) [] ++ rest_of (wave_after w (is_tick e) (step_of d e).lines at) (step_of d e).state es
+      ≡ pick (is_tick e) (end_text w) [] ++ rest_of (wave_after w (is_tick e) (step_of d e).lines) (step_of d e).state es
   unfolding rest_of waves_from wave_after pick
-  rest-next e es at h = rw (eq-eqb (step_of d e).number 0 h) (go (is_tick e))
+  rest-next e es h = rw (eq-eqb (step_of d e).number 0 h) (go (is_tick e))
     where
       later : List (List Bool)
       later = map values_of (waves_from step_of (step_of d e).state es)
@@ -82,7 +82,7 @@ module _ (w : Wave) (d : Device) (now : w.values ≡ value_of (values_of (device
       go : (t : Bool)
           → waves_text w.tick (written_before (eqb w.tick 0) 11 w.before)
           (map values_of (pick t (device_lines d ∷ waves_from step_of (step_of d e).state es) (waves_from step_of (step_of d e).state es)))
-          ≡ pick t (end_text w) [] ++ rest_of (wave_after w t (step_of d e).lines at) (step_of d e).state es
+          ≡ pick t (end_text w) [] ++ rest_of (wave_after w t (step_of d e).lines) (step_of d e).state es
       go true = ended later ∙ ap (λ (l : List ℕ). end_text w ++ l) next
       go false = refl
 

@@ -6,12 +6,12 @@ use mathlib.Core.List.{List, []}
 use native.Mathlib.Omega.{arith}
 use lib.ListN.{length, get_or}
 use Rattle.text.proofs.Laws.Chunks.{piece_byte}
-use Rattle.text.proofs.Laws.Puts.{left_all, left_as, left_then, left_none}
+use Rattle.text.proofs.Laws.Pages.{remains_all, remains_as, remains_then, remains_none}
 use Rattle.capture.proofs.Laws.{lines_next, lines_end, line_within}
 use Rattle.capture.proofs.lines.put_lines.Goals as goal
 
 pub loop-data-init : goal.loop-data-init
-loop-data-init c = (omega arith, left_all _ _ _)
+loop-data-init c = (omega arith, remains_all _ _)
 
 pub loop-data-preserved : goal.loop-data-preserved
 loop-data-preserved c =
@@ -24,13 +24,13 @@ loop-data-preserved c =
     rw (c.as_chunks.ensures.front, piece_byte 2 (length log / 2) i 0 log (omega arith) (omega arith), e) in
     let second : get_or (get_or pieces i []) 1 0 ≡ get_or log (2 * i + 1) 0 =
     rw c.as_chunks.ensures.front (piece_byte 2 (length log / 2) i 1 log (omega arith) (omega arith)) in
-    let p = rw (first, second) at c.put_line-next.ensures in
+    let p = rw (first, second) at c.put_line.ensures in
     let then : 2 * i + 2 ≡ 2 * (i + 1) = omega arith in
     let next = rw then at (lines_next a.letter log (2 * i) (omega arith)) in
     let w = line_within a.letter (get_or log (2 * i) 0) (get_or log (2 * i + 1) 0) in
-    (omega (arith, p.ends), left_then (left_as next c.loop-data.invariant.1) p)
+    (omega (arith, p.puts.ends), remains_then (remains_as next c.loop-data.invariant.1) p)
 
 pub returns : goal.returns
 returns c =
     let a = c.args in
-    left_none (left_as (lines_end a.letter a.log.now (2 * c.loop-data.data-index) (omega arith)) c.loop-data.invariant.1)
+    remains_none (remains_as (lines_end a.letter a.log.now (2 * c.loop-data.data-index) (omega arith)) c.loop-data.invariant.1)

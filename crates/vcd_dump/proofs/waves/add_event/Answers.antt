@@ -2,7 +2,7 @@
 use mathlib.Core.Path.{sym}
 use Rattle.format.specs.Pick.{pick}
 use Rattle.format.proofs.Laws.Pick.{pick_yes, pick_no}
-use Rattle.text.proofs.Laws.Puts.{puts_none, puts_as}
+use Rattle.text.proofs.Laws.Pages.{writes_none, writes_as}
 use Rattle.vcd_dump.specs.Wave.{wave_after}
 use Rattle.vcd_dump.proofs.waves.add_event.Goals as goal
 
@@ -12,7 +12,7 @@ returns-then-tick c =
     let a = c.args in
     record {
       wave = rw (c.if-tick.true, c.values_of-values.ensures);
-      puts = puts_as (sym (pick_yes a.tick _ _ c.if-tick.true)) c.put_changes-at.ensures;
+      writes = writes_as (sym (pick_yes a.tick _ _ c.if-tick.true)) c.put_changes.ensures;
     }
 
 pub returns : goal.returns
@@ -21,5 +21,5 @@ returns c =
     let a = c.args in
     record {
       wave = rw (c.if-tick.false, c.values_of-values.ensures);
-      puts = puts_as (sym (pick_no a.tick _ _ c.if-tick.false)) (puts_none a.wave.at a.space.now);
+      writes = writes_as (sym (pick_no a.tick _ _ c.if-tick.false)) (writes_none a.page.now);
     }

@@ -3,4 +3,4 @@ use Rattle.vcd_dump.proofs.Laws.Stands.{Stands}
 use Rattle.vcd_dump.proofs.waves.write_waves.Given as goal
 
 abbrev pub invariant-loop-kind : goal.invariant-loop-kind
-invariant-loop-kind l = Stands l.events l.initial.space l.initial.wave l.initial.state l.space l.wave l.state l.kind-index
+invariant-loop-kind l = Stands l.events l.initial.page l.initial.wave l.initial.state l.page l.wave l.state l.kind-index

@@ -5,4 +5,4 @@ use Rattle.vcd_text.proofs.lines.put_header.Goals as goal
 
 pub returns : goal.returns
 unfolding bytes_of line_of wire_line wire_lines wires_from chip_wires header_of
-returns c = c.put_bytes.ensures
+returns c = record { same = c.put_bytes.ensures.same; puts = c.put_bytes.ensures.puts }
