@@ -40,7 +40,7 @@ LINES = [
 
 
 # the same of functions by their names, where the body has none of the library's words
-LIBRARY = r"u8::from|is_ascii|matches!|starts_with|\.min\(|saturating_|wrapping_|checked_|abs_diff"
+LIBRARY = r"u8::from|is_ascii|matches!|starts_with|\.min\(|saturating_|wrapping_|checked_|abs_diff|pass\("
 FUNCTIONS = [
     ("4", "a bool as a number", "weight_of|marks_byte|level_text|level_byte|level_digit|weight|bit_of"),
     ("4", "arithmetic that the library has", "least|pulses_left|count_down|line_after|words_after|difference|pass|left_after"),
@@ -75,7 +75,9 @@ def items(lines, head):
 
 
 def kept(lines, i):
-    """whether the place, or a comment of the item that it stands in, above it, says why it is kept"""
+    """whether the place, or a comment of the item that it stands in, above it, says why it is kept; of a comment, the one below it"""
+    if lines[i].lstrip().startswith("//") and any("// Kept:" in line for line in lines[i : i + 3]):
+        return True
     j = i
     while j >= 0 and i - j < 40:
         if "// Kept:" in lines[j]:
@@ -109,7 +111,7 @@ def main():
                 found.setdefault((point, what), []).extend((path, i, lines[i].strip(), kept(lines, i)) for i in rows)
         for point, what, names in FUNCTIONS:
             for i, body in items(lines, rf"^(pub )?fn ({names})\("):
-                if "(register: u16" not in body[0] and not re.search(LIBRARY, " ".join(body)):
+                if "(register: u16" not in body[0] and not re.search(LIBRARY, " ".join(body[1:])):
                     found.setdefault((point, what), []).append((path, i, body[0], kept(lines, i)))
         for i, body in items(lines, r"^(pub )?enum "):
             cases = [b for b in body[1:-1] if re.match(r"^    [A-Z]", b)]

@@ -6,6 +6,7 @@ ghost use Rattle.capture.specs.Lines.{character_line, character_lines};
 use replay_text::put_byte;
 use text::Page;
 
+// Kept: `letter` is a letter that is printed, and no kind.
 fn put_line(letter: u8, data: u8, marks: u8, page: &mut Page<'_>)
     requires { page.old.at + 10 < 2 ^ 64 }
     ensures { Writes (character_line letter «data» marks) page.old page.new }

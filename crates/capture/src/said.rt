@@ -10,6 +10,7 @@ use text::Page;
 use vcd_capture::{Asked, read_capture};
 
 // A refused call is one line, `refused N`.
+// Kept: the number, for it is printed.
 fn put_refused(number: u8, page: &mut Page<'_>)
     requires { page.old.at + 12 < 2 ^ 64 }
     ensures { Writes (refused_text number) page.old page.new }
@@ -19,6 +20,7 @@ fn put_refused(number: u8, page: &mut Page<'_>)
 }
 
 // All lines of A first, in order, then all of B.
+// Kept: a length, for the clause `text`; and one clause on what is lent, where three routines had it.
 pub fn put_said(
     asked: Asked,
     text: &[u8],

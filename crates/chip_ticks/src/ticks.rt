@@ -17,6 +17,7 @@ pub struct Spent {
 }
 
 // No tick is left, or IRQ is asserted and it is looked at.
+// Kept: a flag, as `spend` takes it.
 fn is_over(device: Device, left: u64, watch: bool) -> bool
     ensures { result ≡ is_over watch left device }
 {

@@ -82,7 +82,7 @@ fn take_byte(errors: &impl Print, place: Place, byte: u8, events: &mut Events<'_
 }
 
 // A last line with no line end counts, unless it is empty.
-fn take_all(errors: &impl Print, input: impl Read + Drop, events: &mut Events<'_>) {
+fn read_events(errors: &impl Print, input: impl Read + Drop, events: &mut Events<'_>) {
     let mut place = first_place();
     for byte in InputBytes::new(input) {
         place = take_byte(errors, place, byte, events);
@@ -117,7 +117,7 @@ fn show(
     space: &mut [u8; SPACE],
 ) {
     let mut events = Events { room, count: 0 };
-    take_all(errors, input, &mut events);
+    read_events(errors, input, &mut events);
     write_dump(output, errors, events.filled(), space);
 }
 

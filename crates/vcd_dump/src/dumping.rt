@@ -9,6 +9,7 @@ use chip_device::{Device, is_sound};
 use refusal::Refusal;
 
 // The number, and "the length (0 if refused)".
+// Kept: a number and a length, and a struct of its own beside `FrameAnswer` and `CaptureAnswer`, for C names it.
 #[repr(C)]
 #[derive(Clone, Copy)]
 pub struct DumpAnswer {

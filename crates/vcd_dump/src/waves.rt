@@ -53,6 +53,7 @@ fn add_event(wave: Wave, tick: bool, lines: Lines, page: &mut Page<'_>) -> Wave
 }
 
 // The whole text. "It stops before a refused event".
+// Kept: a length, for `dump` answers it, and C reads it.
 pub fn write_waves(device: Device, events: &[u8], space: &mut [u8]) -> usize
     requires { (is_sound_of device ≡ true) × (length events.now / 3 ≤ 1000000) }
     ensures { Puts 0 (text_of device events.now) space.old space.new result }
