@@ -7,14 +7,13 @@ use Rattle.sampler_state.specs.declared.state.Sampler.{Sampler}
 use Rattle.sampler_state.specs.State.{hunting}
 use Rattle.sampler.specs.Lines.{after_lines, arrivals}
 use Rattle.sampler.specs.Lines as Hearing
-use Rattle.text.specs.Puts.{Puts}
+use Rattle.text.specs.declared.putting.Page.{Page}
+use Rattle.text.specs.Puts.{Writes}
 use Rattle.vcd_lines.specs.declared.body.Reading.{Reading}
 use Rattle.vcd_lines.specs.declared.body.Said.{Said}
 use Rattle.vcd_lines.specs.declared.body.Said.TheVariants.{NoLine, TimeLine, ValueLine}
 use Rattle.vcd_lines.specs.Body.{taken_of, said_of}
-use Rattle.vcd_capture.specs.declared.ear.Heard.{Heard}
 use Rattle.vcd_capture.specs.declared.ear.Ear.{Ear}
-use Rattle.vcd_capture.specs.declared.ear.Step.{Step}
 use Rattle.vcd_capture.specs.Logs.{log_bytes}
 
 -- How many ticks stand before a time: tick n does where n x 625,000 / 2,304 is less, and so its whole part is
@@ -30,9 +29,9 @@ abbrev pub pulses_at : ℕ → Bool → Setting → List Hearing.Line
 pulses_at n level f = replicate n (Hearing.Line.pulse level f)
 
 -- what the code does with them
-pub record Hears (s : Sampler) (level : Bool) (f : Setting) (n at : ℕ) (before after : List ℕ) (r : Heard) : Type 0 where
-  pub sampler : r.sampler ≡ after_lines s (pulses_at n level f)
-  pub puts : Puts at (log_bytes (arrivals s (pulses_at n level f))) before after r.at
+pub record Hears (s : Sampler) (level : Bool) (f : Setting) (n : ℕ) (before after : Page) (r : Sampler) : Type 0 where
+  pub sampler : r ≡ after_lines s (pulses_at n level f)
+  pub writes : Writes (log_bytes (arrivals s (pulses_at n level f))) before after
 
 -- ---- line by line ----
 
@@ -77,6 +76,6 @@ abbrev pub just_enabled : Ear
 just_enabled = record { sampler = hunting false; level = true; done = 0 }
 
 -- what the code does with a line
-pub record Moves (e next : Ear) (cs : List Character) (at : ℕ) (before after : List ℕ) (r : Step) : Type 0 where
-  pub ear : r.ear ≡ next
-  pub puts : Puts at (log_bytes cs) before after r.at
+pub record Moves (e next : Ear) (cs : List Character) (before after : Page) (r : Ear) : Type 0 where
+  pub ear : r ≡ next
+  pub writes : Writes (log_bytes cs) before after

@@ -1,7 +1,7 @@
 // What a wire's receiver hears: "Turn each line, up to the last time, into characters by document 01's receiver, just enabled,
 // phase 0".
 ghost use Rattle.std.specs.Prelude.{◌+◌, ◌*◌, ◌^◌, ◌≤◌, ◌<◌, ◌≡◌, option_to_list};
-ghost use Rattle.text.specs.Puts.{Puts};
+ghost use Rattle.text.specs.Puts.{Puts, Writes};
 ghost use Rattle.vcd_capture.specs.Ear.{ticks_before, pulses_before, Hears, ear_until, heard_until, ear_value, ear_said, heard_said, heard_from, just_enabled, Moves};
 ghost use Rattle.vcd_lines.specs.Body.{started};
 ghost use Rattle.vcd_capture.specs.Logs.{log_bytes};
@@ -11,6 +11,7 @@ use crate::logs::put_character;
 use character::Character;
 use feed::Setting;
 use sampler_state::{Sampler, drop_assembly};
+use text::Page;
 use vcd_lines::{Said, say, start, take};
 
 // The whole part: "Tick n samples the level at order 6's time", so that these are the ticks before a time.
@@ -31,19 +32,13 @@ fn pulses_before(time: u64, period: u64) -> u64
     ticks_before(time) / period
 }
 
-#[derive(Clone, Copy)]
-pub struct Heard {
-    pub sampler: Sampler,
-    pub at: usize,
-}
-
-fn take_came(came: Option<Character>, at: usize, log: &mut [u8]) -> usize
-    requires { at + 2 < 2 ^ 64 }
-    ensures { Puts at (log_bytes (option_to_list came)) log.old log.new result }
+fn take_came(came: Option<Character>, log: &mut Page<'_>)
+    requires { log.old.at + 2 < 2 ^ 64 }
+    ensures { Writes (log_bytes (option_to_list came)) log.old log.new }
 {
     match came {
-        None => at,
-        Some(character) => put_character(character, at, log),
+        None => (),
+        Some(character) => put_character(character, log),
     }
 }
 
@@ -53,26 +48,21 @@ pub fn hear_pulses(
     level: bool,
     setting: Setting,
     times: u64,
-    at: usize,
-    log: &mut [u8],
-) -> Heard
-    requires { at + 2 * times + 2 < 2 ^ 64 }
-    ensures { Hears sampler level setting times at log.old log.new result }
+    log: &mut Page<'_>,
+) -> Sampler
+    requires { log.old.at + 2 * times + 2 < 2 ^ 64 }
+    ensures { Hears sampler level setting times log.old log.new result }
 {
     let mut now_sampler = sampler;
-    let mut next = at;
     let mut left = times;
     // Kept: a `while`, for a turn takes a varying number of pulses, and no range counts them.
     while left > 0 {
         let hopped = hop(now_sampler, level, setting, left);
-        next = take_came(hopped.came, next, log);
+        take_came(hopped.came, log);
         now_sampler = hopped.sampler;
         left -= hopped.pulses;
     }
-    Heard {
-        sampler: now_sampler,
-        at: next,
-    }
+    now_sampler
 }
 
 // What is heard of a wire by: its code in the text, how many ticks a pulse takes, and the setting.
@@ -91,28 +81,17 @@ pub struct Ear {
     pub done: u64,
 }
 
-// After a line: the receiver, and the place in its log.
-// Kept: a place beside its log, as `text` takes them, so that each contract is one `Puts` from place to place.
-#[derive(Clone, Copy)]
-pub struct Step {
-    pub ear: Ear,
-    pub at: usize,
-}
-
-fn hear_until(ear: Ear, time: u64, wire: Wire, at: usize, log: &mut [u8]) -> Step
-    requires { (time < 2 ^ 33) × (ear.done < 2 ^ 32) × (at ≤ 2 * ear.done) }
+fn hear_until(ear: Ear, time: u64, wire: Wire, log: &mut Page<'_>) -> Ear
+    requires { (time < 2 ^ 33) × (ear.done < 2 ^ 32) × (log.old.at ≤ 2 * ear.done) }
     ensures { Moves ear (ear_until wire.period wire.setting time ear) (heard_until wire.period wire.setting time ear)
-        at log.old log.new result }
+        log.old log.new result }
 {
     let times = pulses_before(time, wire.period).saturating_sub(ear.done);
-    let heard = hear_pulses(ear.sampler, ear.level, wire.setting, times, at, log);
-    Step {
-        ear: Ear {
-            sampler: heard.sampler,
-            level: ear.level,
-            done: ear.done + times,
-        },
-        at: heard.at,
+    let sampler = hear_pulses(ear.sampler, ear.level, wire.setting, times, log);
+    Ear {
+        sampler,
+        level: ear.level,
+        done: ear.done + times,
     }
 }
 
@@ -126,18 +105,15 @@ fn hear_value(ear: Ear, code: u8, level: bool, own: u8) -> Ear
     next
 }
 
-fn hear_said(ear: Ear, said: Said, wire: Wire, at: usize, log: &mut [u8]) -> Step
-    requires { (ear.done < 2 ^ 32) × (at ≤ 2 * ear.done) }
+fn hear_said(ear: Ear, said: Said, wire: Wire, log: &mut Page<'_>) -> Ear
+    requires { (ear.done < 2 ^ 32) × (log.old.at ≤ 2 * ear.done) }
     ensures { Moves ear (ear_said wire.period wire.setting wire.code ear said)
-        (heard_said wire.period wire.setting ear said) at log.old log.new result }
+        (heard_said wire.period wire.setting ear said) log.old log.new result }
 {
     match said {
-        Said::NoLine => Step { ear, at },
-        Said::TimeLine(time) => hear_until(ear, u64::from(time), wire, at, log),
-        Said::ValueLine(code, level) => Step {
-            ear: hear_value(ear, code, level, wire.code),
-            at,
-        },
+        Said::NoLine => ear,
+        Said::TimeLine(time) => hear_until(ear, u64::from(time), wire, log),
+        Said::ValueLine(code, level) => hear_value(ear, code, level, wire.code),
     }
 }
 
@@ -153,13 +129,12 @@ pub fn hear_wire(lines: &[u8], wire: Wire, end: u64, log: &mut [u8]) -> usize
         level: true,
         done: 0,
     };
-    let mut place = 0usize;
+    let mut page = Page { space: log, at: 0 };
     for byte in lines {
         let said = say(reading, *byte);
-        let step = hear_said(ear, said, wire, place, log);
-        ear = step.ear;
-        place = step.at;
+        ear = hear_said(ear, said, wire, &mut page);
         reading = take(reading, *byte, true);
     }
-    hear_until(ear, end, wire, place, log).at
+    hear_until(ear, end, wire, &mut page);
+    page.at
 }

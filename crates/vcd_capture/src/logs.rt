@@ -1,10 +1,10 @@
 // "two bytes a character (data, marks as SR 7-5)"
 ghost use Rattle.std.specs.Prelude.{◌+◌, ◌^◌, ◌<◌, ◌≡◌};
-ghost use Rattle.text.specs.Puts.{Puts};
+ghost use Rattle.text.specs.Puts.{Writes};
 ghost use Rattle.vcd_capture.specs.Logs.{marks_byte, character_bytes};
 
 use character::{Character, Marks};
-use text::put;
+use text::Page;
 
 // "break, framing, parity" where SR has them: bits 7, 6 and 5.
 fn marks_byte(marks: Marks) -> u8
@@ -13,11 +13,10 @@ fn marks_byte(marks: Marks) -> u8
     128 * u8::from(marks.broken) + 64 * u8::from(marks.framing) + 32 * u8::from(marks.parity)
 }
 
-pub fn put_character(character: Character, at: usize, log: &mut [u8]) -> usize
-    requires { at + 2 < 2 ^ 64 }
-    ensures { Puts at (character_bytes character) log.old log.new result }
+pub fn put_character(character: Character, log: &mut Page<'_>)
+    requires { log.old.at + 2 < 2 ^ 64 }
+    ensures { Writes (character_bytes character) log.old log.new }
 {
-    put(character.byte, at, log);
-    put(marks_byte(character.marks), at + 1, log);
-    at + 2
+    log.put(character.byte);
+    log.put(marks_byte(character.marks));
 }

@@ -4,7 +4,7 @@ use mathlib.Core.Path.{◌≡◌, sym, ◌∙◌, ap}
 use native.Mathlib.Omega.{arith}
 use Rattle.std.specs.Prelude.{option_to_list}
 use Rattle.sampler.specs.Lines.{arrivals}
-use Rattle.text.proofs.Laws.Puts.{puts_length, left_as, left_then, left_none}
+use Rattle.text.proofs.Laws.Pages.{remains_as, remains_then, remains_none}
 use Rattle.vcd_capture.specs.Logs.{log_bytes}
 use Rattle.vcd_capture.specs.Ear.{pulses_at}
 use Rattle.vcd_capture.proofs.Laws.Hops.{hop-turn}
@@ -18,15 +18,14 @@ loop-left-preserved c =
     let r = c.hop-hopped.result in
     let turn = hop-turn a.level a.setting c.loop-left.now_sampler c.loop-left.left r h in
     let later = arrivals r.sampler (pulses_at (c.loop-left.left - r.pulses) a.level a.setting) in
-    let p = c.take_came-next.ensures in
+    let p = c.take_came.ensures in
     let w = came_within r.came in
     let l = log_length (option_to_list r.came) in
-    let rest = left_as (ap log_bytes turn.1 ∙ log_append (option_to_list r.came) later) c.loop-left.invariant.4 in (
+    let rest = remains_as (ap log_bytes turn.1 ∙ log_append (option_to_list r.came) later) c.loop-left.invariant.3 in (
       omega (arith, h.some, h.few),
-      omega (arith, p.ends, h.some, h.few),
-      puts_length p ∙ c.loop-left.invariant.2,
-      sym turn.0 ∙ c.loop-left.invariant.3,
-      left_then rest p,
+      omega (arith, p.puts.ends, h.some, h.few),
+      sym turn.0 ∙ c.loop-left.invariant.2,
+      remains_then rest p,
     )
 
 pub returns : goal.returns
@@ -34,6 +33,6 @@ returns c =
     let a = c.args in
     let e : c.loop-left.left ≡ 0 = omega arith in
     record {
-      sampler = sym (no_after c.loop-left.now_sampler a.level a.setting) ∙ rw e at c.loop-left.invariant.3;
-      puts = left_none (left_as (rw e (no_arrivals c.loop-left.now_sampler a.level a.setting)) c.loop-left.invariant.4);
+      sampler = sym (no_after c.loop-left.now_sampler a.level a.setting) ∙ rw e at c.loop-left.invariant.2;
+      writes = remains_none (remains_as (rw e (no_arrivals c.loop-left.now_sampler a.level a.setting)) c.loop-left.invariant.3);
     }
