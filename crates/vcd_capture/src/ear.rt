@@ -118,6 +118,7 @@ fn hear_said(ear: Ear, said: Said, wire: Wire, log: &mut Page<'_>) -> Ear
 }
 
 // The whole text after its header, and then the pulses up to the end.
+// Kept: a length, for `read_capture` answers it of either log.
 pub fn hear_wire(lines: &[u8], wire: Wire, end: u64, log: &mut [u8]) -> usize
     requires { end < 2 ^ 33 }
     ensures { Puts 0 (log_bytes (heard_from wire.period wire.setting wire.code end started just_enabled lines.now))
