@@ -30,6 +30,7 @@ LINES = [
     ("4", "printing by hand", False, r"fn (print_number|print_byte|print_thousandths|print_tenths|print_level|put_decimal)\("),
     ("5", "a place in a text beside it", False, r"requires \{ \(?at ≤ length text"),
     ("5", "a place in lent space beside it", False, r"requires \{ \(?\(?(wave\.)?at \+ "),
+    ("5", "a value with a clause on it in each of its routines", False, r"^pub struct Page"),
     ("5", "parameters that travel together", False, r"requires \{ Lent |fn (show_txd|exact_rate)\(|fn hear_until\(.*period|^(pub )?fn (write_seen|hear_wire|hear_said)\($"),
     ("6", "what is filled, as a length beside the space", False,
      r"^(pub )?fn \w+\(.*(space|log|text|events): &mut \[u8(; 32)?\]\) -> usize|^\) -> usize|^    pub length(_[ab])?: usize"),

@@ -21,6 +21,7 @@ pub fn level_digit(level: bool) -> u8
 }
 
 // Lent space, and the place in it that the text has come to.
+// Kept: each routine asks room for its own text, for the place counts on past the space: no invariant bounds it.
 #[derive(Drop)]
 pub struct Page<'a> {
     pub space: &'a mut [u8],
