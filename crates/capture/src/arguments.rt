@@ -35,7 +35,7 @@ fn ask(mr1: u64, acr7: u64, code: u64) -> Option<Asked>
 }
 
 // The length of the argument that is put at the start of `space`: 0 where there is none, or `space` is too short for it.
-// Kept: 0 and a length, for the clause `Within result space.new`, and a name of no length is no wire's.
+// Kept: 0 for none, for the clause `Within result space.new` is of a number; and no wire has an empty name.
 pub fn argument(env: &impl Env, place: usize, space: &mut [u8]) -> usize
     ensures { Within result space.new }
 {

@@ -42,7 +42,7 @@ struct Room {
 }
 
 // How many bytes are read, until the text is full, the input ends or a read fails: they stand at its start.
-// Kept: each read says how many bytes came; std's own loop, `read_to_end`, fills a Vec, and there is no heap.
+// Kept: a `while`, for a turn takes as many bytes as a read brings; std's `read_to_end` fills a Vec: there is no heap.
 fn read_full(input: &mut impl Read, text: &mut [u8]) -> usize
     ensures { Within result text.new }
 {

@@ -20,7 +20,7 @@ fn put_refused(number: u8, page: &mut Page<'_>)
 }
 
 // All lines of A first, in order, then all of B.
-// Kept: a length, for the clause `text`; and one clause on what is lent, where three routines had it.
+// Kept: a length, for the clause `text` says what `space.new` holds; the parameters are `read_capture`'s.
 pub fn put_said(
     asked: Asked,
     text: &[u8],

@@ -25,7 +25,7 @@ pub struct Lines {
 }
 
 // ISR: its bit 3 is the counter's.
-// Kept: a front and what its channels show are three parameters, for no value holds them: what is shown is worked out.
+// Kept: three parameters, for `is_asserted`, `lines_of` and `event_data`, which docs/ list, take them so.
 fn isr_of(front: Front, a: Shown, b: Shown) -> u8
     ensures { result ≡ isr_of front a b }
 {

@@ -107,6 +107,7 @@ fn tick_sound(device: Device) -> Answer
     let look = device;
     let mut answer = refuse_unsound(device);
     if has_room(look.front) {
+        // Kept: six fields, as in `pass_device`: a method for both would be lent the answer, which is then copied.
         let counts = pass_counts(look.front, Ticks(1));
         answer.state.front.a.phases.receiver.0 = counts.rxca.0;
         answer.state.front.a.phases.transmitter.0 = counts.txca.0;

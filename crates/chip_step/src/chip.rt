@@ -14,7 +14,7 @@ use refusal::Refusal;
 
 // "The answer has the number, the data byte (0 where none is read), IRQ (1 when asserted), TxDA, TxDB, the OP0-OP7
 // levels and the new state."; order 1: "The receive buffer read shall also say fresh or stale".
-// Kept: a number, for document 01 says that the answer has one, and theorems of `demands` name it; `fresh`, as in `Fed`.
+// Kept: a number, for document 01 says that the answer has one, and `demands` names it; `fresh`, as in `Fed`.
 #[repr(C)]
 #[derive(Clone, Copy)]
 pub struct Answer {

@@ -32,7 +32,7 @@ fn is_over(device: Device, left: u64, watch: bool) -> bool
 }
 
 // Single ticks, at most so many, until IRQ is asserted where it is looked at.
-// Kept: a flag and no closure: the contract goes by `spent_of watch`, and would have to require as much of a closure.
+// Kept: a flag and no closure, for the clause is `spent_of watch`: of a closure the same would have to be required.
 pub fn spend(device: Device, ticks: u64, watch: bool) -> Spent
     requires { is_sound_of device ≡ true }
     ensures { result ≡ spent_of watch ticks device }

@@ -8,7 +8,7 @@ use chip_device::{Device, device_lines, is_sound};
 use refusal::Refusal;
 
 // "reports how many ticks it took"; the lines are those of the state.
-// Kept: a number, for document 01 says that an answer has one, and `RanSeen`, which C reads, shows it.
+// Kept: a number, for order 5 has a run answer one, and `RanSeen`, which C reads, shows it.
 #[derive(Clone, Copy)]
 pub struct Ran {
     pub number: u8,

@@ -22,7 +22,7 @@ const ROOM: usize = 3000003;
 // Room for the most text that is dumped.
 const SPACE: usize = 2097152;
 
-// Kept: `replay` has it too; shared, it would be a public function that promises nothing: `Print` tells no bytes.
+// Kept: `replay` has it too. A public routine has a clause here, and none can say what is printed.
 fn print_error(errors: &impl Print, line: u64) {
     let mut space = [0u8; 32];
     let length = write_error(line, &mut space);
@@ -30,6 +30,7 @@ fn print_error(errors: &impl Print, line: u64) {
 }
 
 // The list of events, three bytes each, filled from the front of the room for it.
+// Kept: a count beside the room, three bytes an event, for `dump` takes the list so.
 #[derive(Drop)]
 struct Events<'a> {
     room: &'a mut [u8],
@@ -64,6 +65,7 @@ impl<'a> Events<'a> {
     }
 }
 
+// Kept: `replay` has the like, which does another thing with a line: shared, it would say nothing in its clause.
 fn end_line(errors: &impl Print, place: Place, events: &mut Events<'_>) -> Place {
     match tell(place.reading) {
         Line::Skipped => {}

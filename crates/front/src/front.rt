@@ -75,7 +75,7 @@ pub fn hand_nothing(front: Front) -> Handed
     }
 }
 
-// Kept: two routines, of `front.a` and of `front.b`, which are two fields, for `Front` crosses to C.
+// Kept: two routines, for docs/ list both, and C names `a` and `b` as two fields of `Front`.
 pub fn hand_a(front: Front, handed: SideHanded) -> Handed
     ensures { result ≡ handed_a front handed }
 {

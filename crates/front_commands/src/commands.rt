@@ -49,6 +49,7 @@ fn transmitter_effect(action: Action) -> Input
     }
 }
 
+// Kept: two bits as a number here and below, for each of its two commands is looked at where it is told.
 // "then 3-2 (01 enable, 10 disable transmitter)"
 fn transmitter_enabling(bits: u8) -> Input
     ensures { result ≡ transmitter_enabling bits }

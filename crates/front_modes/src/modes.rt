@@ -50,7 +50,7 @@ pub fn echoes(mr2: u8) -> bool
 // What the pin TxD shows, and here alone, of MR2, the receiver's enable, the echoed level and the transmitter's:
 // "TxD stays high"; "at each pulse of an enabled receiver TxD takes the sampled level (high while disabled)"; in
 // normal mode the transmitter's level.
-// Kept: the four are passed one by one for speed, for a side that is passed whole is copied.
+// Kept: four parameters, for docs/ list it so, and a side that is passed whole is copied on every tick.
 pub fn show_txd(mr2: u8, enabled: bool, echo: bool, level: bool) -> bool
     ensures { result ≡ txd_shown mr2 enabled echo level }
 {

@@ -11,6 +11,7 @@ use std::io::Read;
 // How many bytes are asked for at a time.
 const CHUNK: usize = 4096;
 
+// Kept: a chunk with its places, for std's `bytes` reads a byte a call, and its buffered reader takes a heap.
 #[derive(Drop)]
 pub struct InputBytes<R> {
     input: R,

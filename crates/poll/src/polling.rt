@@ -12,7 +12,7 @@ use records::{EventRecord, Seen, event_of, seen_of};
 use refusal::Refusal;
 
 // "the call itself answers 0", or why it is refused; "the count says how many were written"; "the last state"
-// Kept: a number, for document 01 says that an answer has one, and C reads it.
+// Kept: a number, for order 5 has a poll answer one, and `PolledSeen`, which C reads, shows it.
 #[repr(C)]
 #[derive(Clone, Copy)]
 pub struct Polled {
@@ -90,6 +90,7 @@ pub fn poll(device: Device, events: &[EventRecord], answers: &mut [Seen]) -> Pol
     for (i, event) in events.iter().enumerate() {
         let answer = turn(state, *event);
         let seen = seen_in(answer);
+        // Kept: a place by its index, for the edit `one_event_too_many` goes past the end of both lists.
         answers[i] = seen;
         let next = state_in(answer);
         state = next;

@@ -38,7 +38,7 @@ pub fn is_empty(queue: Queue) -> bool
 }
 
 // "FFULL: three in the queue."
-// Kept: this and `one_waits` are each a test by its name; one with a const parameter would say less.
+// Kept: this and `one_waits` are two names that docs/ list; one with a const parameter would say less.
 pub fn is_full(queue: Queue) -> bool
     ensures { result ≡ is_full_of queue }
 {

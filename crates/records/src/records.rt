@@ -35,7 +35,7 @@ pub struct Seen {
 }
 
 // Every record is an event: a kind above 5 is a read of register 255, which is refused as a "register above 15".
-// Kept: a function and no From: its callers' contracts cite it by this name, and Event::from(event) is no plainer.
+// Kept: a function and no From, for docs/ list it by this name, with its edit.
 pub fn event_of(event: EventRecord) -> Event
     ensures { result ≡ event_of event }
 {
@@ -68,7 +68,7 @@ impl From<Event> for EventRecord {
     }
 }
 
-// Kept: no From<Answer>: this crate would stand on chip_step for it, and every crate that names Seen with it.
+// Kept: four parameters and no From<Answer>, for docs/ list it so, and `Answer` stands in a crate above.
 pub fn seen_of(number: u8, byte: u8, fresh: bool, lines: Lines) -> Seen
     ensures { result ≡ seen_of number byte fresh lines }
 {

@@ -26,7 +26,7 @@ fn print_answer(rt: &impl Print, answer: Answer) -> Device {
     answer.state
 }
 
-// Kept: `dump` has it too; shared, it would be a public function that promises nothing: `Print` tells no bytes.
+// Kept: `dump` has it too. A public routine has a clause here, and none can say what is printed.
 fn print_error(rt: &impl Print, line: u64) {
     let mut space = [0u8; 32];
     let length = write_error(line, &mut space);
@@ -46,6 +46,7 @@ fn act(rt: &impl Print, device: Device, said: Line, line: u64) -> Device {
     }
 }
 
+// Kept: `dump` has the like, which does another thing with a line: shared, it would say nothing in its clause.
 fn end_line(rt: &impl Print, run: Run) -> Run {
     let place = run.place;
     let said = tell(place.reading);

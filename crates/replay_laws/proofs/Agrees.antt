@@ -1,5 +1,5 @@
 -- A line that is read byte by byte says what its words mean: what is read is a summary of its words, and what is told by the summary is what the
--- words mean, since a name's bytes are that name's alone and a number up to the most is its value. Assumes nothing.
+-- words mean, since a name's number is that name's alone and a capped number is its value. Assumes nothing.
 use Prim.Native.Nat.{ℕ}
 use mathlib.Core.Path.{◌≡◌, refl, ap, ◌∙◌}
 use mathlib.Core.Bool.{Bool, true, false, ◌&&◌, and-false, and-true}
@@ -14,16 +14,15 @@ use Rattle.replay_script.specs.declared.lines.Line.{Line}
 use Rattle.replay_script.specs.declared.lines.Line.TheVariants.{Skipped, Wrong, Ticks, One}
 use Rattle.replay_script.specs.Script.{pieces_of, full_of, same_of, hash_of, all_digits, value_of, up_to, tick_text, read_text, pins_text, write_text, said, meant_of}
 use Rattle.replay_script.specs.Lines.{told_alone, told_with_byte, told_with_one, byte_of, told_with_bytes, told_with_two, told_of}
-use Rattle.replay_script.specs.Reading.{no_name}
-use Rattle.replay_script.specs.Agrees.{Agrees}
+use Rattle.replay_script.specs.Agrees.{AreBytes, Agrees}
 use Rattle.replay_laws.proofs.Laws.Names.{name_from, named_reset, named_read, named_write, named_ack, named_pins, named_tick}
 use Rattle.text.specs.Numbers.{number_from}
 use Rattle.replay_laws.proofs.Laws.Numbers.{number_is}
-use Rattle.replay_laws.proofs.Laws.Words.{comment_of, count_of, name_of, first_of, second_of, summary_of, read_words}
+use Rattle.replay_laws.proofs.Laws.Words.{comment_of, count_of, name_of, first_of, second_of, summary_of, read_words, AllBytes, words_bytes}
 
-alone : (a : List ℕ) → told_alone (name_from no_name a) ≡ said a []
+alone : (a : List ℕ) → AreBytes a → told_alone (name_from 1 a) ≡ said a []
 unfolding told_alone said
-alone a = rw (named_reset a, named_ack a, named_tick a)
+alone a h = rw (named_reset a h, named_ack a h, named_tick a h)
 
 -- the tests of one number and those of the definition, in every case: of a number up to the most, and of none
 one_number : (tick read pins byte : Bool) (v : ℕ)
@@ -44,18 +43,18 @@ no_number : (tick read pins : Bool) (v : ℕ)
 unfolding pick
 no_number tick read pins v = rw (and-false tick, and-false read, and-false pins)
 
-with_one : (a n : List ℕ) → told_with_one (name_from no_name a) (number_from (Some 0) n) ≡ said a (n ∷ [])
+with_one : (a n : List ℕ) → AreBytes a → told_with_one (name_from 1 a) (number_from (Some 0) n) ≡ said a (n ∷ [])
 unfolding told_with_one told_with_byte said pick
-with_one a n = rw (number_is n) (go (all_digits n) refl (leb (value_of n) 4000000000) refl)
+with_one a n h = rw (number_is n) (go (all_digits n) refl (leb (value_of n) 4000000000) refl)
   where
     go : (d : Bool) → all_digits n ≡ d → (m : Bool) → leb (value_of n) 4000000000 ≡ m
-        → told_with_one (name_from no_name a) (pick (up_to 4000000000 n) (Some (value_of n)) None) ≡ said a (n ∷ [])
+        → told_with_one (name_from 1 a) (pick (up_to 4000000000 n) (Some (value_of n)) None) ≡ said a (n ∷ [])
     go false e m f = rw e (no_number (same_of a tick_text) (same_of a read_text) (same_of a pins_text) (value_of n))
     go true e false f =
         let above = leb-false (value_of n) 4000000000 f in
         rw (e, f, lt-leb (value_of n) 255 (omega arith)) (no_number (same_of a tick_text) (same_of a read_text) (same_of a pins_text) (value_of n))
     go true e true f =
-        rw (e, f, named_tick a, named_read a, named_pins a)
+        rw (e, f, named_tick a h, named_read a h, named_pins a h)
         (rw f (one_number (same_of a tick_text) (same_of a read_text) (same_of a pins_text) (leb (value_of n) 255) (value_of n)))
 
 -- a word that is a byte
@@ -71,25 +70,25 @@ byte_is w = rw (number_is w) (go (all_digits w) (leb (value_of w) 4000000000) re
         let above = leb-false (value_of w) 4000000000 e in
         rw (lt-leb (value_of w) 255 (omega arith))
 
-with_two : (a n b : List ℕ) → told_with_two (name_from no_name a) (number_from (Some 0) n) (number_from (Some 0) b) ≡ said a (n ∷ b ∷ [])
+with_two : (a n b : List ℕ) → AreBytes a → told_with_two (name_from 1 a) (number_from (Some 0) n) (number_from (Some 0) b) ≡ said a (n ∷ b ∷ [])
 unfolding told_with_bytes said pick
-with_two a n b = rw (byte_is n, byte_is b) (go (up_to 255 n) (up_to 255 b))
+with_two a n b h = rw (byte_is n, byte_is b) (go (up_to 255 n) (up_to 255 b))
   where
     go : (first second : Bool)
-        → told_with_bytes (name_from no_name a) (pick first (Some (value_of n)) None) (pick second (Some (value_of b)) None)
+        → told_with_bytes (name_from 1 a) (pick first (Some (value_of n)) None) (pick second (Some (value_of b)) None)
         ≡ pick (same_of a write_text && (first && second)) (One (Write (value_of n) (value_of b))) Wrong
-    go true true = rw (named_write a, and-true)
+    go true true = rw (named_write a h, and-true)
     go true false = rw and-false
     go false second = rw and-false
 
 -- what is told by the summary of some words is what they mean
-told_words : (ws : List (List ℕ)) → told_of (summary_of false ws) ≡ meant_of ws
-unfolding told_of meant_of comment_of count_of name_of first_of second_of pick said
-told_words [] = refl
-told_words (a ∷ []) = ap (λ (l : Line). pick (hash_of a) Skipped l) (alone a)
-told_words (a ∷ n ∷ []) = ap (λ (l : Line). pick (hash_of a) Skipped l) (with_one a n)
-told_words (a ∷ n ∷ b ∷ []) = ap (λ (l : Line). pick (hash_of a) Skipped l) (with_two a n b)
-told_words (a ∷ n ∷ b ∷ c ∷ ws) = refl
+told_words : (ws : List (List ℕ)) → AllBytes ws → told_of (summary_of false ws) ≡ meant_of ws
+unfolding told_of meant_of comment_of count_of name_of first_of second_of pick AllBytes said
+told_words [] h = refl
+told_words (a ∷ []) h = ap (λ (l : Line). pick (hash_of a) Skipped l) (alone a h.0)
+told_words (a ∷ n ∷ []) h = ap (λ (l : Line). pick (hash_of a) Skipped l) (with_one a n h.0)
+told_words (a ∷ n ∷ b ∷ []) h = ap (λ (l : Line). pick (hash_of a) Skipped l) (with_two a n b h.0)
+told_words (a ∷ n ∷ b ∷ c ∷ ws) h = refl
 
 pub reads : Agrees
-reads line = read_words line ∙ told_words (full_of (pieces_of line))
+reads line h = read_words line ∙ told_words (full_of (pieces_of line)) (words_bytes line h)

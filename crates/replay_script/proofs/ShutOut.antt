@@ -2,7 +2,6 @@
 use Prim.Native.Nat.{ℕ, ◌+◌}
 use mathlib.Core.Path.{◌≡◌}
 use mathlib.Core.Bool.{◌||◌, false≢true}
-use mathlib.Core.List.{[], ◌∷◌}
 use native.Mathlib.Omega.{arith}
 use lib.Dec.{eqb, ltb}
 use Rattle.std.proofs.Common.{Some}
@@ -10,7 +9,7 @@ use Rattle.format.specs.Pick.{pick}
 use Rattle.events.specs.declared.events.Event.TheVariants.{Write, Acknowledge}
 use Rattle.replay_script.specs.declared.lines.Line.TheVariants.{Ticks, One}
 use Rattle.replay_script.specs.Bytes.{blank_of}
-use Rattle.replay_script.specs.Reading.{is_named, words_after}
+use Rattle.replay_script.specs.Reading.{words_after}
 use Rattle.replay_script.specs.Lines.{told_alone, told_with_one, byte_of, told_with_bytes, told_with_two}
 use Rattle.replay_script.specs.Place.{line_after}
 
@@ -26,18 +25,18 @@ no_four_words_three h = omega (arith, h 3)
 -- ---- what it says ----
 
 -- `Ack`
-no_capital_ack : One Acknowledge ≡ told_alone (record { bytes = 65 ∷ 99 ∷ 107 ∷ 0 ∷ 0 ∷ []; length = 3 }) → ⊥
-unfolding told_alone is_named pick
+no_capital_ack : One Acknowledge ≡ told_alone 0x1_41_63_6b → ⊥
+unfolding told_alone pick
 no_capital_ack h = let z : ◌≡◌ {A = ℕ} 0 1 = cc in omega arith
 
 -- `tick 4000000001`
-no_count_above_most : Ticks (record { 0 = 4000000001 }) ≡ told_with_one (record { bytes = 116 ∷ 105 ∷ 99 ∷ 107 ∷ 0 ∷ []; length = 4 }) (Some 4000000001) → ⊥
-unfolding told_with_one is_named pick
+no_count_above_most : Ticks (record { 0 = 4000000001 }) ≡ told_with_one 0x1_74_69_63_6b (Some 4000000001) → ⊥
+unfolding told_with_one pick
 no_count_above_most h = let z : ◌≡◌ {A = ℕ} 0 1 = cc in omega arith
 
 -- `write 12 256`, whatever is made of the 256
-no_byte256_written : (byte : ℕ) → One (Write 12 byte) ≡ told_with_two (record { bytes = 119 ∷ 114 ∷ 105 ∷ 116 ∷ 101 ∷ []; length = 5 }) (Some 12) (Some 256) → ⊥
-unfolding told_with_bytes byte_of is_named pick
+no_byte256_written : (byte : ℕ) → One (Write 12 byte) ≡ told_with_two 0x1_77_72_69_74_65 (Some 12) (Some 256) → ⊥
+unfolding told_with_bytes byte_of pick
 no_byte256_written byte h = let z : ◌≡◌ {A = ℕ} 0 1 = cc in omega arith
 
 -- ---- which line it is ----

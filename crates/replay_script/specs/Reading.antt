@@ -1,28 +1,17 @@
 -- What is known of a line, byte by byte. Assumes nothing.
-use Rattle.std.specs.Prelude.{ℕ, ◌+◌, Bool, true, false, ◌&&◌, List, [], ◌∷◌, Option, Some, eqb, ltb, length, slice_set}
-use Rattle.std.specs.List.{starts_with}
+use Rattle.std.specs.Prelude.{ℕ, ◌+◌, ◌*◌, Bool, true, false, List, [], ◌∷◌, Option, Some, eqb, ltb}
 use Rattle.format.specs.Pick.{pick}
-use Rattle.replay_script.specs.declared.reading.Name.{Name}
 use Rattle.replay_script.specs.declared.reading.Reading.{Reading}
 use Rattle.text.specs.Numbers.{number_after}
 use Rattle.replay_script.specs.Bytes.{blank_of}
 
-abbrev pub no_name : Name
-no_name = record { bytes = 0 ∷ 0 ∷ 0 ∷ 0 ∷ 0 ∷ []; length = 0 }
-
 abbrev pub started : Reading
-started = record { inside = false; comment = false; words = 0; name = no_name; first = Some 0; second = Some 0 }
+started = record { inside = false; comment = false; words = 0; name = 1; first = Some 0; second = Some 0 }
 
--- The first word: its first five bytes, and how many it has, 6 from the sixth on.
-unfoldable pub name_after : Name → ℕ → Name
-name_after name b =
-    pick (ltb name.length 5)
-    (record { bytes = slice_set name.bytes name.length b; length = name.length + 1 })
-    (record { bytes = name.bytes; length = 6 })
-
--- whether it is this word, of at most five bytes
-unfoldable pub is_named : Name → List ℕ → Bool
-is_named name word = eqb name.length (length word) && starts_with eqb name.bytes word
+-- The first word is a number in base 256, after a 1: no two words of at most five bytes have the same. From the sixth
+-- byte on it is 2 ^ 48.
+unfoldable pub name_after : ℕ → ℕ → ℕ
+name_after name b = pick (ltb name 0x100_0000_0000) (name * 256 + b) 0x1_0000_0000_0000
 
 -- 35 is #
 unfoldable pub comment_after : Reading → ℕ → Bool
@@ -43,7 +32,7 @@ begun_of r b =
       second = r.second;
     }
 
-abbrev pub with_name : Name → Reading → Reading
+abbrev pub with_name : ℕ → Reading → Reading
 with_name n r =
     record {
       inside = r.inside;

@@ -9,4 +9,4 @@ mod reading;
 
 pub use lines::{Line, tell};
 pub use place::{Place, first_place, next_line, next_place};
-pub use reading::{Name, Reading, start, take};
+pub use reading::{Reading, start, take};

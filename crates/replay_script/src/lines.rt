@@ -2,7 +2,7 @@
 ghost use Rattle.std.specs.Prelude.{◌≡◌};
 ghost use Rattle.replay_script.specs.Lines.{told_alone, told_with_byte, told_with_one, byte_of, told_with_two, told_of};
 
-use crate::reading::{Name, Reading};
+use crate::reading::Reading;
 use events::Event;
 use format::Ticks;
 use text::MOST;
@@ -16,43 +16,57 @@ pub enum Line {
     One(Event),
 }
 
+// Each name is its letters in base 256 after a 1.
+// Kept: numbers, as `Reading` has the name.
+const RESET: u64 = 0x1_72_65_73_65_74;
+
+const READ: u64 = 0x1_72_65_61_64;
+
+const WRITE: u64 = 0x1_77_72_69_74_65;
+
+const ACK: u64 = 0x1_61_63_6b;
+
+const PINS: u64 = 0x1_70_69_6e_73;
+
+const TICK: u64 = 0x1_74_69_63_6b;
+
 // `reset`, `ack` or `tick`
-fn tell_alone(name: Name) -> Line
+fn tell_alone(name: u64) -> Line
     ensures { result ≡ told_alone name }
 {
-    if name.is(b"reset") {
+    if name == RESET {
         return Line::One(Event::ChipReset);
     }
-    if name.is(b"ack") {
+    if name == ACK {
         return Line::One(Event::Acknowledge);
     }
-    if name.is(b"tick") {
+    if name == TICK {
         return Line::Ticks(Ticks(1));
     }
     Line::Wrong
 }
 
 // `read N` or `pins B`
-fn tell_with_byte(name: Name, byte: u8) -> Line
+fn tell_with_byte(name: u64, byte: u8) -> Line
     ensures { result ≡ told_with_byte name byte }
 {
-    if name.is(b"read") {
+    if name == READ {
         return Line::One(Event::Read(byte));
     }
-    if name.is(b"pins") {
+    if name == PINS {
         return Line::One(Event::Pins(byte));
     }
     Line::Wrong
 }
 
 // `read N`, `pins B` or `tick COUNT`
-fn tell_with_one(name: Name, first: Option<u64>) -> Line
+fn tell_with_one(name: u64, first: Option<u64>) -> Line
     ensures { result ≡ told_with_one name first }
 {
     let Some(number) = first else {
         return Line::Wrong;
     };
-    if name.is(b"tick") {
+    if name == TICK {
         if number <= MOST {
             return Line::Ticks(Ticks(number));
         }
@@ -72,13 +86,11 @@ fn byte_of(number: Option<u64>) -> Option<u8>
 }
 
 // `write N B`
-fn tell_with_two(name: Name, first: Option<u64>, second: Option<u64>) -> Line
+fn tell_with_two(name: u64, first: Option<u64>, second: Option<u64>) -> Line
     ensures { result ≡ told_with_two name first second }
 {
     match (byte_of(first), byte_of(second)) {
-        (Some(register), Some(byte)) if name.is(b"write") => {
-            Line::One(Event::Write(register, byte))
-        }
+        (Some(register), Some(byte)) if name == WRITE => Line::One(Event::Write(register, byte)),
         _ => Line::Wrong,
     }
 }

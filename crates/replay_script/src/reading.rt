@@ -1,41 +1,10 @@
 // A line of a script, byte by byte: what is known of it so far.
 ghost use Rattle.std.specs.Prelude.{◌≡◌};
 ghost use Rattle.replay_script.specs.Bytes.{blank_of};
-ghost use Rattle.replay_script.specs.Reading.{started, is_named, name_after, comment_after};
+ghost use Rattle.replay_script.specs.Reading.{started, name_after, comment_after};
 ghost use Rattle.replay_script.specs.Reading.{words_after, begun_of, added_of, taken_of};
 
 use text::number_after;
-
-// The bytes of a line's first word, up to five of them.
-#[derive(Clone, Copy)]
-pub struct Name {
-    pub bytes: [u8; 5],
-    // how many; 6 stands for more than five
-    pub length: u8,
-}
-
-impl Name {
-    // Whether the first word is this one, of at most five bytes.
-    pub(crate) fn is(self, word: &[u8]) -> bool
-        ensures { result ≡ is_named self word.now }
-    {
-        (usize::from(self.length) == word.len()) & self.bytes.starts_with(word)
-    }
-
-    // The first word with one byte more.
-    fn longer(self, byte: u8) -> Name
-        ensures { result ≡ name_after self byte }
-    {
-        let mut next = self;
-        if self.length < 5 {
-            next.bytes[usize::from(self.length)] = byte;
-            next.length = self.length + 1;
-        } else {
-            next.length = 6;
-        }
-        next
-    }
-}
 
 #[derive(Clone, Copy)]
 pub struct Reading {
@@ -44,12 +13,21 @@ pub struct Reading {
     // whether the first word begins with #
     pub comment: bool,
     // how many words have begun; 4 stands for four and more
+    // Kept: a count and a name as numbers, for `take` and `tell`, which docs/ list, take every one.
     pub words: u8,
-    pub name: Name,
+    // the bytes of the first word after a 1, in base 256; LONG where there are more than five
+    pub name: u64,
     // the numbers that the second word and the third spell, as `number_after` has them
     pub first: Option<u64>,
     pub second: Option<u64>,
 }
+
+// A name of fewer than five bytes is below this.
+const FIVE_BYTES: u64 = 0x100_0000_0000;
+
+// More than any name of five bytes.
+// Kept: a number, as `Reading` has the name.
+const LONG: u64 = 0x1_0000_0000_0000;
 
 // No byte of the line is read yet.
 pub fn start() -> Reading
@@ -59,10 +37,7 @@ pub fn start() -> Reading
         inside: false,
         comment: false,
         words: 0,
-        name: Name {
-            bytes: [0; 5],
-            length: 0,
-        },
+        name: 1,
         first: Some(0),
         second: Some(0),
     }
@@ -73,6 +48,16 @@ fn is_blank(byte: u8) -> bool
     ensures { result ≡ blank_of byte }
 {
     matches!(byte, b' ' | b'\t' | b'\r')
+}
+
+// The first word's name, with one byte more.
+fn name_after(name: u64, byte: u8) -> u64
+    ensures { result ≡ name_after name byte }
+{
+    if name < FIVE_BYTES {
+        return name * 256 + byte as u64;
+    }
+    LONG
 }
 
 // Whether the line is a comment, once a word has begun with this byte.
@@ -113,7 +98,7 @@ fn add(reading: Reading, byte: u8) -> Reading
 {
     let mut added = reading;
     if reading.words == 1 {
-        added.name = reading.name.longer(byte);
+        added.name = name_after(reading.name, byte);
         return added;
     }
     if reading.words == 2 {

@@ -28,7 +28,7 @@ fn put_flag(flag: bool, separator: u8, page: &mut Page<'_>)
 }
 
 // The line of an answer: number, data byte, IRQ, TxDA, TxDB and OP, in decimal, and whether the byte is fresh.
-// Kept: a length, for the clause `text`: of a slice handed back, `space.new` "has no value after the call".
+// Kept: a length, for the clause `text` is of `space.new`, which has no value while a part of it is handed back.
 pub fn write_seen(seen: Seen, space: &mut [u8; 32]) -> usize
     ensures within { Within result space.new }
     ensures text { take result space.new ≡ seen_text seen.number seen.data seen.irq seen.txda seen.txdb seen.op

@@ -21,7 +21,7 @@ pub fn level_digit(level: bool) -> u8
 }
 
 // Lent space, and the place in it that the text has come to.
-// Kept: each routine asks room for its own text, for the place counts on past the space: no invariant bounds it.
+// Kept: each routine asks that its own text end below 2^64, for the place counts past the space too.
 #[derive(Drop)]
 pub struct Page<'a> {
     pub space: &'a mut [u8],
@@ -49,8 +49,7 @@ impl Page<'_> {
     }
 
     // A number in decimal that has at most so many places.
-    // Kept: a recursion, not the kit's `itoa`: the edit `digits_by_nines` takes the last digit by 9, and places cut the
-    // text.
+    // Kept: a recursion, not the kit's `itoa`: it puts the last `places` digits, and an edit stands on its `% 10`.
     pub fn put_decimal(&mut self, number: u64, places: usize)
         requires { self.old.at + places < 2 ^ 64 }
         ensures { Writes (decimal_of places number) self.old self.new }

@@ -46,6 +46,7 @@ fn end_of(times: Times) -> u64
 
 // "There are two lent logs, one per channel": both are filled, or neither. The characters are heard into no log first, which
 // counts them.
+// Kept: six parameters, for docs/ list it and `capture` so, and C hands them over one by one.
 pub fn read_capture(
     asked: Asked,
     text: &[u8],

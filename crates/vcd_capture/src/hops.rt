@@ -57,6 +57,7 @@ fn left_after(left: Pulses, most: u64) -> Pulses
 
 // Passed over: in a start and in a character the pulses before the one that decides, in a break the lows, and where a
 // receiver hunts all but a low after a high.
+// Kept: a switch by number, as `sample`'s; level and setting apart, as `sample`, which docs/ list, takes them.
 pub fn hop(sampler: Sampler, level: bool, setting: Setting, most: u64) -> Hopped
     requires { 0 < most }
     ensures { Hops sampler level setting most result }

@@ -73,6 +73,7 @@ pub fn write_waves(device: Device, events: &[u8], space: &mut [u8]) -> usize
             put_changes(wave.tick, wave.before, wave.values, &mut page);
             return page.at;
         }
+        // Kept: the kind of a record, 5, which is a number for C writes it.
         wave = add_event(wave, kind == 5, answer.lines, &mut page);
         state = answer.state;
     }

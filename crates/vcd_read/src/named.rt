@@ -22,7 +22,7 @@ fn clashes(wire: WireHere, mut others: Wires) -> bool
 pub fn twice(mut wires: Wires) -> bool
     ensures { result ≡ twice_of (left wires.entry) }
 {
-    // Kept: a `while`, for the wires that are left are asked in each turn, and a `for` would have taken them.
+    // Kept: a `while`, for each turn asks the wires still left, and `for wire in wires` goes over a copy of them.
     while let Some(wire) = wires.next() {
         if clashes(wire, wires) {
             return true;

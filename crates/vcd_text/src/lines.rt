@@ -61,6 +61,7 @@ fn put_value(changed: bool, level: bool, code: u8, page: &mut Page<'_>)
 
 // The values of a time, a bit for each wire, "written where they differ from those written before"; all, where none
 // was.
+// Kept: a flag beside the word, for the clause's `written_before` takes both.
 fn put_values(none: bool, before: u16, values: u16, page: &mut Page<'_>)
     requires { page.old.at + 33 < 2 ^ 64 }
     ensures { Writes (value_lines 33 (written_before none 11 before) (bits_of 11 values)) page.old page.new }

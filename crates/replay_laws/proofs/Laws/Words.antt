@@ -1,5 +1,6 @@
 -- What is read of a line is a summary of its words: a byte more takes the summary of the words so far to that of the words with the byte.
 -- Assumes nothing.
+use Prim.{tt}
 use Prim.Native.Nat.{ℕ}
 use mathlib.Core.Path.{◌≡◌, refl, ap, ◌∙◌}
 use mathlib.Core.Bool.{Bool, true, false}
@@ -8,12 +9,12 @@ use lib.Seq.{append_snoc}
 use Rattle.std.specs.Prelude.{Option, Some}
 use Rattle.format.specs.Pick.{pick}
 use Rattle.format.proofs.Laws.Pick.{pick_yes, pick_no}
-use Rattle.replay_script.specs.declared.reading.Name.{Name}
 use Rattle.replay_script.specs.declared.reading.Reading.{Reading}
 use Rattle.replay_script.specs.Bytes.{blank_of}
 use Rattle.replay_script.specs.Script.{before, pieces_of, kept, full_of, hash_of}
-use Rattle.replay_script.specs.Reading.{no_name, started, comment_after, words_after, begun_of, added_of, taken_of, taken_all}
+use Rattle.replay_script.specs.Reading.{started, comment_after, words_after, begun_of, added_of, taken_of, taken_all}
 use Rattle.replay_script.specs.Lines.{told_of}
+use Rattle.replay_script.specs.Agrees.{AreBytes}
 use Rattle.replay_laws.proofs.Laws.Names.{name_from, name_snoc}
 use Rattle.text.specs.Numbers.{number_from}
 use Rattle.replay_laws.proofs.Laws.Numbers.{number_snoc}
@@ -30,9 +31,9 @@ count_of (a ∷ b ∷ []) = 2
 count_of (a ∷ b ∷ c ∷ []) = 3
 count_of (a ∷ b ∷ c ∷ d ∷ ws) = 4
 
-unfoldable pub name_of : List (List ℕ) → Name
-name_of [] = no_name
-name_of (a ∷ ws) = name_from no_name a
+unfoldable pub name_of : List (List ℕ) → ℕ
+name_of [] = 1
+name_of (a ∷ ws) = name_from 1 a
 
 unfoldable pub first_of : List (List ℕ) → Option ℕ
 first_of [] = Some 0
@@ -77,7 +78,7 @@ begun (x ∷ y ∷ z ∷ u ∷ ws) b = refl
 
 lengthened : (ws : List (List ℕ)) (c : ℕ) (w : List ℕ) (b : ℕ) → Added ws (c ∷ w) b
 unfolding added_of begun_of comment_after words_after pick comment_of count_of name_of first_of second_of hash_of
-lengthened [] c w b = rw (name_snoc no_name (c ∷ w) b)
+lengthened [] c w b = rw (name_snoc 1 (c ∷ w) b)
 lengthened (x ∷ []) c w b = rw (number_snoc (Some 0) (c ∷ w) b)
 lengthened (x ∷ y ∷ []) c w b = rw (number_snoc (Some 0) (c ∷ w) b)
 lengthened (x ∷ y ∷ z ∷ []) c w b = refl
@@ -140,3 +141,30 @@ read_from_lem ws w (b ∷ line) = go (λ v vs. read_from_lem vs v line) (blank_o
 pub read_words : (line : List ℕ) → told_of (taken_all started line) ≡ told_of (summary_of false (full_of (pieces_of line)))
 unfolding comment_of count_of name_of first_of second_of
 read_words line = read_from_lem [] [] line ∙ rw (onto_nothing (pieces_of line))
+
+-- the words of bytes are bytes
+unfoldable pub AllBytes : List (List ℕ) → Type 0
+AllBytes [] = Unit {0}
+AllBytes (w ∷ ws) = AreBytes w × AllBytes ws
+
+pieces_bytes : (line : List ℕ) → AreBytes line → AllBytes (pieces_of line)
+unfolding pieces_of AllBytes AreBytes pick
+pieces_bytes [] h = (tt, tt)
+pieces_bytes (b ∷ line) h = go (pieces_bytes line h.1) (blank_of b)
+  where
+    onto-first : (ps : List (List ℕ)) → AllBytes ps → AllBytes (before b ps)
+    onto-first [] k = ((h.0, tt), tt)
+    onto-first (p ∷ ps) k = ((h.0, k.0), k.1)
+
+    go : AllBytes (pieces_of line) → (t : Bool) → AllBytes (pick t ([] ∷ pieces_of line) (before b (pieces_of line)))
+    go k true = (tt, k)
+    go k false = onto-first (pieces_of line) k
+
+full_bytes : (ps : List (List ℕ)) → AllBytes ps → AllBytes (full_of ps)
+unfolding full_of AllBytes
+full_bytes [] h = tt
+full_bytes ([] ∷ ps) h = full_bytes ps h.1
+full_bytes ((b ∷ p) ∷ ps) h = (h.0, full_bytes ps h.1)
+
+pub words_bytes : (line : List ℕ) → AreBytes line → AllBytes (full_of (pieces_of line))
+words_bytes line h = full_bytes (pieces_of line) (pieces_bytes line h)

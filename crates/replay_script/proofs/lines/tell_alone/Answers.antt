@@ -3,18 +3,18 @@ use Rattle.format.proofs.Laws.{steps}
 use Rattle.replay_script.specs.Lines.{told_alone}
 use Rattle.replay_script.proofs.lines.tell_alone.Goals as goal
 
-pub returns-then-is : goal.returns-then-is
+pub returns-then-name-eq-RESET : goal.returns-then-name-eq-RESET
 unfolding told_alone
-returns-then-is c = simp (← c.is.ensures) (search steps)
+returns-then-name-eq-RESET c = search steps
 
-pub returns-then-is-2 : goal.returns-then-is-2
+pub returns-then-name-eq-ACK : goal.returns-then-name-eq-ACK
 unfolding told_alone
-returns-then-is-2 c = simp (← c.is.ensures, ← c.is-2.ensures) (search steps)
+returns-then-name-eq-ACK c = search steps
 
-pub returns-then-is-3 : goal.returns-then-is-3
+pub returns-then-name-eq-TICK : goal.returns-then-name-eq-TICK
 unfolding told_alone
-returns-then-is-3 c = simp (← c.is.ensures, ← c.is-2.ensures, ← c.is-3.ensures) (search steps)
+returns-then-name-eq-TICK c = search steps
 
 pub returns : goal.returns
 unfolding told_alone
-returns c = simp (← c.is.ensures, ← c.is-2.ensures, ← c.is-3.ensures) (search steps)
+returns c = search steps

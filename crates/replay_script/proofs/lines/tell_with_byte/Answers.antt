@@ -3,14 +3,14 @@ use Rattle.format.proofs.Laws.{steps}
 use Rattle.replay_script.specs.Lines.{told_with_byte}
 use Rattle.replay_script.proofs.lines.tell_with_byte.Goals as goal
 
-pub returns-then-is : goal.returns-then-is
+pub returns-then-name-eq-READ : goal.returns-then-name-eq-READ
 unfolding told_with_byte
-returns-then-is c = simp (← c.is.ensures) (search steps)
+returns-then-name-eq-READ c = search steps
 
-pub returns-then-is-2 : goal.returns-then-is-2
+pub returns-then-name-eq-PINS : goal.returns-then-name-eq-PINS
 unfolding told_with_byte
-returns-then-is-2 c = simp (← c.is.ensures, ← c.is-2.ensures) (search steps)
+returns-then-name-eq-PINS c = search steps
 
 pub returns : goal.returns
 unfolding told_with_byte
-returns c = simp (← c.is.ensures, ← c.is-2.ensures) (search steps)
+returns c = search steps

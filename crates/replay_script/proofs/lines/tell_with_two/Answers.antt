@@ -6,11 +6,11 @@ use Rattle.replay_script.proofs.lines.tell_with_two.Goals as goal
 
 pub returns-in-Some-Some : goal.returns-in-Some-Some
 unfolding told_with_bytes
-returns-in-Some-Some c = rw (sym c.byte_of.ensures, sym c.byte_of-2.ensures, c.in-Some-Some.is-0, c.in-Some-Some.is-1) (simp (← c.is.ensures) (search steps))
+returns-in-Some-Some c = rw (sym c.byte_of.ensures, sym c.byte_of-2.ensures, c.in-Some-Some.is-0, c.in-Some-Some.is-1) (search steps)
 
 pub returns-in_default : goal.returns-in_default
 unfolding told_with_bytes
-returns-in_default c = rw (sym c.byte_of.ensures, sym c.byte_of-2.ensures, c.in-Some-Some.is-0, c.in-Some-Some.is-1) (simp (← c.is.ensures) (search steps))
+returns-in_default c = rw (sym c.byte_of.ensures, sym c.byte_of-2.ensures, c.in-Some-Some.is-0, c.in-Some-Some.is-1) (search steps)
 
 pub returns-in_default-2 : goal.returns-in_default-2
 unfolding told_with_bytes

@@ -5,7 +5,7 @@ use Rattle.replay_script.proofs.reading.add.Goals as goal
 
 pub returns-then-reading-eq1 : goal.returns-then-reading-eq1
 unfolding added_of
-returns-then-reading-eq1 c = simp c.longer-added.ensures (search steps)
+returns-then-reading-eq1 c = simp c.name_after.ensures (search steps)
 
 pub returns-then-reading-eq2 : goal.returns-then-reading-eq2
 unfolding added_of
