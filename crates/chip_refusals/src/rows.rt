@@ -17,7 +17,8 @@ pub fn is_register_above_15(event: Event) -> bool
     ensures { result ≡ register_above15 event }
 {
     match event {
-        Event::Read(register) | Event::Write(register, _) => 15 < register,
+        Event::Read(register) => 15 < register,
+        Event::Write(register, _) => 15 < register,
         _ => false,
     }
 }

@@ -101,12 +101,10 @@ fn cited(pages: &[Page]) -> BTreeSet<String> {
     for page in pages.iter().filter(|page| !page.is_history()) {
         for (_, line) in page.lines() {
             found.extend(italics(line));
-            found.extend(
-                ticks(line)
-                    .into_iter()
-                    .flat_map(|text| text.split("::"))
-                    .map(str::to_string),
-            );
+            for text in ticks(line) {
+                found.extend(text.split("::").map(str::to_string));
+                found.insert(text.to_string());
+            }
         }
     }
     found

@@ -28,26 +28,49 @@ pub fn exported(lib: &str) -> BTreeSet<String> {
         .collect()
 }
 
-/// The functions of a file, each from its first line to the line `}` that ends it.
+/// The functions of a file, each from its first line to the line `}` that ends it; a method of a type's own `impl` is
+/// `Type::name`. (What a trait's `impl` promises stands in its ghost members.)
 pub fn functions(text: &str) -> Vec<(String, String)> {
     let mut found = Vec::new();
+    let mut of_type = None;
     let mut lines = text.lines();
     while let Some(line) = lines.next() {
-        let name = match name_of(line) {
-            Some(name) => name,
-            None => continue,
+        if line.starts_with("impl") {
+            of_type = type_of(line);
+        } else if line == "}" {
+            of_type = None;
+        }
+        let inside = line.strip_prefix("    ").filter(|_| of_type.is_some());
+        let name = match (name_of(inside.unwrap_or(line)), &of_type) {
+            (Some(name), Some(of_type)) => format!("{of_type}::{name}"),
+            (Some(name), None) => name,
+            (None, _) => continue,
         };
+        let end = if inside.is_some() { "    }" } else { "}" };
         let mut body = format!("{line}\n");
         for next in lines.by_ref() {
             body.push_str(next);
             body.push('\n');
-            if next == "}" {
+            if next == end {
                 break;
             }
         }
         found.push((name, body));
     }
     found
+}
+
+/// The type of an `impl` that is of no trait.
+fn type_of(line: &str) -> Option<String> {
+    let rest = line.strip_prefix("impl")?;
+    if rest.contains(" for ") {
+        return None;
+    }
+    let rest = match rest.strip_prefix('<') {
+        Some(bounds) => bounds.split_once("> ")?.1,
+        None => rest,
+    };
+    Some(rest.trim().split(['<', ' ']).next()?.to_string())
 }
 
 fn name_of(line: &str) -> Option<String> {
@@ -60,8 +83,12 @@ fn name_of(line: &str) -> Option<String> {
 /// What stands between the braces after each `ensures`, on one line, with the label between.
 pub fn ensures(function: &str) -> Vec<(String, String)> {
     let mut found = Vec::new();
-    let head = function.split("\n{\n").next().unwrap_or(function);
-    for part in head.split("\n    ensures").skip(1) {
+    let left = if function.starts_with(' ') { "    " } else { "" };
+    let head = function
+        .split(&format!("\n{left}{{\n"))
+        .next()
+        .unwrap_or(function);
+    for part in head.split(&format!("\n{left}    ensures")).skip(1) {
         let label = part.split('{').next().unwrap_or("").trim().to_string();
         let said = part
             .split_once('{')
@@ -79,7 +106,12 @@ fn of_crate(crate_name: &str, lib: &str, files: &BTreeMap<String, String>) -> Ve
         for (name, function) in functions(text) {
             found.push(Routine {
                 crate_name: crate_name.to_string(),
-                exported: public.contains(&name),
+                exported: match name.split_once("::") {
+                    Some((of_type, _)) => {
+                        public.contains(of_type) && function.starts_with("    pub ")
+                    }
+                    None => public.contains(&name),
+                },
                 ensures: ensures(&function),
                 file: file.clone(),
                 text: function,
@@ -136,6 +168,24 @@ mod tests {
             ("space".to_string(), "z".to_string()),
         ];
         assert_eq!(ensures(&found[1].1), two);
+    }
+
+    #[test]
+    fn methods() {
+        let text = "impl Page<'_> {\n    // a byte\n    pub fn put(&mut self, byte: u8)\n        ensures { w byte }\n    {\n    }\n}\n\n\
+            impl From<A> for B {\n    fn from(a: A) -> B {\n    }\n}\n\nfn last()\n    ensures { z }\n{\n}\n";
+        let found = functions(text);
+        assert_eq!(
+            found
+                .iter()
+                .map(|(name, _)| name.as_str())
+                .collect::<Vec<_>>(),
+            ["Page::put", "last"]
+        );
+        assert_eq!(
+            ensures(&found[0].1),
+            [("".to_string(), "w byte".to_string())]
+        );
     }
 
     #[test]

@@ -24,15 +24,15 @@ fn is_of(edit: &Edit, routine: &Routine) -> bool {
     edit.file == routine.file && edit.olds.iter().any(here)
 }
 
-/// The edit's text stands first in a `const` of the file, and the routine reads that table.
+/// The edit's text stands first in a `static` of the file, and the routine reads that table.
 fn is_in_table_of(file: &str, old: &str, routine: &Routine) -> bool {
     let text = fs::read_to_string(file).unwrap_or_default();
     let before = match text.find(old) {
         Some(place) => &text[..place],
         None => return false,
     };
-    let table = match before.rfind("const ") {
-        Some(place) if !before[place..].contains(";\n") => &before[place + 6..],
+    let table = match before.rfind("static ") {
+        Some(place) if !before[place..].contains(";\n") => &before[place + 7..],
         _ => return false,
     };
     let name = table.split(':').next().unwrap_or("");
