@@ -6,7 +6,7 @@ use Rattle.text.specs.Numbers.{digit}
 use Rattle.vcd_text.specs.Lines.{Line}
 use Rattle.vcd_text.specs.Lines.Line.{Time, Value}
 use Rattle.vcd_lines.specs.declared.body.Place.{Place}
-use Rattle.vcd_lines.specs.declared.body.Place.TheVariants.{LineStart, Hash, Digits, Zero, Level, Code, Outside}
+use Rattle.vcd_lines.specs.declared.body.Place.TheVariants.{LineStart, Hash, Digits, Whole, Level, Code, Outside}
 use Rattle.vcd_lines.specs.declared.body.Reading.{Reading}
 use Rattle.vcd_lines.specs.declared.body.Said.{Said}
 use Rattle.vcd_lines.specs.declared.body.Said.TheVariants.{NoLine, TimeLine, ValueLine}
@@ -25,7 +25,7 @@ begun b timed = pick (eqb b 35) Hash (pick (timed && (eqb b 48 || eqb b 49)) (Le
 
 -- the first digit of a time: "no leading zeros"
 unfoldable pub first_digit : ℕ → Place
-first_digit b = pick (eqb b 48) Zero (pick (digit b) (Digits (b - 48)) Outside)
+first_digit b = pick (eqb b 48) (Whole 0) (pick (digit b) (Digits (b - 48)) Outside)
 
 -- a line's end must follow
 unfoldable pub must_end : ℕ → Place
@@ -47,7 +47,7 @@ abbrev pub place_after : Place → Bool → ℕ → Bool → Place
 place_after LineStart timed b known = begun b timed
 place_after Hash timed b known = first_digit b
 place_after (Digits t) timed b known = next_digit t b
-place_after Zero timed b known = must_end b
+place_after (Whole t) timed b known = must_end b
 place_after (Level v) timed b known = coded v b known
 place_after (Code v c) timed b known = must_end b
 place_after Outside timed b known = Outside
@@ -55,7 +55,7 @@ place_after Outside timed b known = Outside
 -- a time's line, which its end ends; with that a time has come
 abbrev pub in_time : Place → Bool
 in_time (Digits t) = true
-in_time Zero = true
+in_time (Whole t) = true
 in_time p = false
 
 unfoldable pub taken_of : Reading → ℕ → Bool → Reading
@@ -65,7 +65,7 @@ taken_of r b known =
 -- the line that ends in a place, and the one that a byte ends
 abbrev pub line_at : Place → Said
 line_at (Digits t) = TimeLine t
-line_at Zero = TimeLine 0
+line_at (Whole t) = TimeLine t
 line_at (Code v c) = ValueLine c v
 line_at p = NoLine
 

@@ -14,8 +14,8 @@ pub enum Place {
     Hash,
     // in a time that more digits may follow: the time so far
     Digits(u32),
-    // after the time `0`, which none may follow
-    Zero,
+    // after a time that no digit may follow, as after `0`
+    Whole(u32),
     // after a level
     Level(bool),
     // after a level and a code
@@ -76,7 +76,7 @@ fn first_digit(byte: u8) -> Place
     ensures { result ≡ first_digit byte }
 {
     if byte == b'0' {
-        Place::Zero
+        Place::Whole(0)
     } else if is_digit(byte) {
         Place::Digits(digit_value(byte) as u32)
     } else {
@@ -124,7 +124,7 @@ fn take_code(level: bool, byte: u8, known: bool) -> Place
 fn is_in_time(place: Place) -> bool
     ensures { result ≡ in_time place }
 {
-    matches!(place, Place::Digits(_) | Place::Zero)
+    matches!(place, Place::Digits(_) | Place::Whole(_))
 }
 
 // One byte more. Whether it is a code of the header is for the caller to say.
@@ -136,7 +136,7 @@ pub fn take(reading: Reading, byte: u8, known: bool) -> Reading
         Place::LineStart => begin(byte, timed),
         Place::Hash => first_digit(byte),
         Place::Digits(time) => next_digit(time, byte),
-        Place::Zero | Place::Code(_, _) => must_end(byte),
+        Place::Whole(_) | Place::Code(_, _) => must_end(byte),
         Place::Level(level) => take_code(level, byte, known),
         Place::Outside => Place::Outside,
     };
@@ -154,7 +154,7 @@ pub fn say(reading: Reading, byte: u8) -> Said
     }
     match reading.place {
         Place::Digits(time) => Said::TimeLine(time),
-        Place::Zero => Said::TimeLine(0),
+        Place::Whole(time) => Said::TimeLine(time),
         Place::Code(level, code) => Said::ValueLine(code, level),
         _ => Said::NoLine,
     }

@@ -14,7 +14,7 @@ use Rattle.text.proofs.Laws.Decimal.{decimal_last, decimal_more}
 use Rattle.vcd_text.specs.Lines.{Line, line_text, lines_text}
 use Rattle.vcd_text.specs.Lines.Line.{Time, Value}
 use Rattle.vcd_lines.specs.declared.body.Place.{Place}
-use Rattle.vcd_lines.specs.declared.body.Place.TheVariants.{LineStart, Hash, Digits, Zero, Level, Code, Outside}
+use Rattle.vcd_lines.specs.declared.body.Place.TheVariants.{LineStart, Hash, Digits, Whole, Level, Code, Outside}
 use Rattle.vcd_lines.specs.declared.body.Reading.{Reading}
 use Rattle.vcd_lines.specs.declared.body.Said.TheVariants.{NoLine}
 use Rattle.text.specs.Numbers.{digit}
@@ -48,7 +48,7 @@ pub start_only : (p : Place) → at_start p ≡ true → p ≡ LineStart
 start_only LineStart e = refl
 start_only Hash e = absurd (false≢true e)
 start_only (Digits n) e = absurd (false≢true e)
-start_only Zero e = absurd (false≢true e)
+start_only (Whole n) e = absurd (false≢true e)
 start_only (Level v) e = absurd (false≢true e)
 start_only (Code v c) e = absurd (false≢true e)
 start_only Outside e = absurd (false≢true e)
@@ -59,13 +59,14 @@ module _ (known : ℕ → Bool) where
   so_far LineStart = []
   so_far Hash = 35 ∷ []
   so_far (Digits n) = 35 ∷ decimal_of 20 n
-  so_far Zero = 35 ∷ decimal_of 20 0
+  so_far (Whole n) = 35 ∷ decimal_of 20 n
   so_far (Level v) = digit_of v ∷ []
   so_far (Code v c) = digit_of v ∷ c ∷ []
   so_far Outside = []
 
   Stands : Place → Bool → Type 0
   Stands (Digits n) t = (0 < n) × (n ≤ 4000000000)
+  Stands (Whole n) t = n ≤ 4000000000
   Stands (Level v) t = t ≡ true
   Stands (Code v c) t = (t ≡ true) × (known c ≡ true)
   Stands Outside t = ⊥
@@ -197,8 +198,8 @@ module _ (known : ℕ → Bool) where
 
       go : (x : Bool) → eqb b 48 ≡ x → (d : Bool) → digit b ≡ d → Back Hash t (b ∷ bs)
       go true z d q =
-          moves Hash Zero t b bs (step Hash Zero t b (rw z) refl) quiet
-          (rw (eqb-true b 48 z, decimal_last 20 0 (λ (x : ◌≡◌ {A = ℕ} 20 0). omega arith) (omega arith))) tt ih h
+          moves Hash (Whole 0) t b bs (step Hash (Whole 0) t b (rw z) refl) quiet
+          (rw (eqb-true b 48 z, decimal_last 20 0 (λ (x : ◌≡◌ {A = ℕ} 20 0). omega arith) (omega arith))) (omega arith) ih h
       go false z true q =
           let (l, m) = digit-bounds b q in
           let n = eqb-false b 48 z in
@@ -263,25 +264,26 @@ module _ (known : ℕ → Bool) where
           (ap (λ (x : ℕ). line_of (said_of (at (Digits n) t) x)) is ∙ s) (rw is (time-text n)) (time-good n t few) ih h
       go false d false q = leaves (Digits n) t b bs (number-out n b d q) q h
 
-  zero-ends : (t k : Bool) → (taken_of (at Zero t) 10 k ≡ at LineStart true) × (line_of (said_of (at Zero t) 10) ≡ Time 0 ∷ [])
+  whole-ends : (n : ℕ) (t k : Bool) → (taken_of (at (Whole n) t) 10 k ≡ at LineStart true) × (line_of (said_of (at (Whole n) t) 10) ≡ Time n ∷ [])
   unfolding taken_of must_end said_of pick
-  zero-ends t k = (rw or-true, refl)
+  whole-ends n t k = (rw or-true, refl)
 
   end-out : (b : ℕ) → eqb b 10 ≡ false → must_end b ≡ Outside
   unfolding must_end pick
   end-out b e = rw e
 
-  at_zero : (t : Bool) (b : ℕ) (bs : List ℕ) → Ends bs → (read_all known (at Zero t) (b ∷ bs)).place ≡ LineStart → Back Zero t (b ∷ bs)
+  at_whole : (n : ℕ) (t : Bool) (b : ℕ) (bs : List ℕ) → n ≤ 4000000000 → Ends bs
+      → (read_all known (at (Whole n) t) (b ∷ bs)).place ≡ LineStart → Back (Whole n) t (b ∷ bs)
   unfolding so_far Stands
-  at_zero t b bs ih h = go (eqb b 10) refl
+  at_whole n t b bs few ih h = go (eqb b 10) refl
     where
-      go : (x : Bool) → eqb b 10 ≡ x → Back Zero t (b ∷ bs)
+      go : (x : Bool) → eqb b 10 ≡ x → Back (Whole n) t (b ∷ bs)
       go true q =
           let is = eqb-true b 10 q in
-          let (e, s) = zero-ends t (known b) in
-          ends Zero t true b bs (Time 0) (ap (λ (x : ℕ). taken_of (at Zero t) x (known b)) is ∙ e) (ap (λ (x : ℕ). line_of (said_of (at Zero t) x)) is ∙ s)
-          (rw is (time-text 0)) (time-good 0 t (omega arith)) ih h
-      go false q = leaves Zero t b bs (end-out b q) q h
+          let (e, s) = whole-ends n t (known b) in
+          ends (Whole n) t true b bs (Time n) (ap (λ (x : ℕ). taken_of (at (Whole n) t) x (known b)) is ∙ e)
+          (ap (λ (x : ℕ). line_of (said_of (at (Whole n) t) x)) is ∙ s) (rw is (time-text n)) (time-good n t few) ih h
+      go false q = leaves (Whole n) t b bs (end-out b q) q h
 
   -- ---- in a value line ----
 
@@ -330,7 +332,7 @@ module _ (known : ℕ → Bool) where
   at_byte b bs ih LineStart t s h = at-start t b bs ih h
   at_byte b bs ih Hash t s h = at-hash t b bs ih h
   at_byte b bs ih (Digits n) t (s, m) h = at-number n t b bs s m ih h
-  at_byte b bs ih Zero t s h = at_zero t b bs ih h
+  at_byte b bs ih (Whole n) t s h = at_whole n t b bs s ih h
   at_byte b bs ih (Level v) t s h = at_level v t b bs s ih h
   at_byte b bs ih (Code v c) t (s, k) h = at_code v c t b bs s k ih h
   at_byte b bs ih Outside t s h = absurd s

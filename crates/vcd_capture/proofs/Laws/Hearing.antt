@@ -15,7 +15,7 @@ use Rattle.std.specs.Prelude.{Option, None, Some, option_to_list}
 use Rattle.sampler.specs.Lines.{hears, after_lines, arrivals}
 use Rattle.sampler.specs.Lines as Hearing
 use Rattle.vcd_lines.specs.declared.body.Place.{Place}
-use Rattle.vcd_lines.specs.declared.body.Place.TheVariants.{LineStart, Hash, Digits, Zero, Level, Code, Outside}
+use Rattle.vcd_lines.specs.declared.body.Place.TheVariants.{LineStart, Hash, Digits, Whole, Level, Code, Outside}
 use Rattle.vcd_lines.specs.declared.body.Reading.{Reading}
 use Rattle.vcd_lines.specs.declared.body.Said.{Said}
 use Rattle.vcd_lines.specs.declared.body.Said.TheVariants.{NoLine, TimeLine, ValueLine}
@@ -129,7 +129,7 @@ said_fits r b h = pick_all SaidFits (eqb b 10) _ _ (line_fits r.place h) tt
     line_fits LineStart h = tt
     line_fits Hash h = tt
     line_fits (Digits t) h = omega arith
-    line_fits Zero h = omega arith
+    line_fits (Whole t) h = omega arith
     line_fits (Level v) h = tt
     line_fits (Code v c) h = tt
     line_fits Outside h = tt

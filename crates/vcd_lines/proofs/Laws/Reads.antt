@@ -14,7 +14,7 @@ use Rattle.text.proofs.Laws.Decimal.{decimal_last, decimal_more}
 use Rattle.vcd_text.specs.Lines.{Line, line_text, lines_text}
 use Rattle.vcd_text.specs.Lines.Line.{Time, Value}
 use Rattle.vcd_lines.specs.declared.body.Place.{Place}
-use Rattle.vcd_lines.specs.declared.body.Place.TheVariants.{LineStart, Hash, Digits, Zero, Level, Code}
+use Rattle.vcd_lines.specs.declared.body.Place.TheVariants.{LineStart, Hash, Digits, Whole, Level, Code}
 use Rattle.vcd_lines.specs.declared.body.Reading.{Reading}
 use Rattle.vcd_lines.specs.declared.body.Said.TheVariants.{NoLine}
 use Rattle.text.specs.Numbers.{digit}
@@ -46,7 +46,7 @@ module _ (known : ℕ → Bool) where
 
   -- the place in this time, or after the time 0
   abbrev in_number : ℕ → Place
-  in_number n = pick (eqb n 0) Zero (Digits n)
+  in_number n = pick (eqb n 0) (Whole 0) (Digits n)
 
   no_line : (r : Reading) (b : ℕ) → (b ≡ 10 → ⊥) → line_of (said_of r b) ≡ []
   unfolding said_of pick
@@ -122,7 +122,7 @@ module _ (known : ℕ → Bool) where
   -- a time's end, after its last digit
   time-ends : (t : Bool) (n : ℕ) → Reads (at (in_number n) t) (10 ∷ []) (at LineStart true) (Time n ∷ [])
   unfolding taken_of must_end next_digit said_of pick
-  time-ends t zero = reads-one (at Zero t) 10 (at LineStart true) (Time 0 ∷ []) (rw or-true) refl
+  time-ends t zero = reads-one (at (Whole 0) t) 10 (at LineStart true) (Time 0 ∷ []) (rw or-true) refl
   time-ends t (suc n) =
       rw (in-number (suc n) (λ (z : suc n ≡ 0). omega arith))
       (reads-one (at (Digits (suc n)) t) 10 (at LineStart true) (Time (suc n) ∷ []) (rw or-true) refl)

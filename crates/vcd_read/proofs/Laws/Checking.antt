@@ -9,7 +9,7 @@ use lib.ListN.{length, drop, get_or, drop_of_length-le}
 use borrow.Author.Tests.{ltb-true, leb-true}
 use Rattle.format.proofs.Laws.Pick.{pick_all, pick_known}
 use Rattle.vcd_lines.specs.declared.body.Place.{Place}
-use Rattle.vcd_lines.specs.declared.body.Place.TheVariants.{LineStart, Hash, Digits, Zero, Level, Code, Outside}
+use Rattle.vcd_lines.specs.declared.body.Place.TheVariants.{LineStart, Hash, Digits, Whole, Level, Code, Outside}
 use Rattle.vcd_lines.specs.declared.body.Reading.{Reading}
 use Rattle.text.specs.Numbers.{digit}
 use Rattle.vcd_lines.specs.Body.{begun, first_digit, next_digit, must_end, coded, place_after, taken_of}
@@ -36,6 +36,7 @@ checked_end text i known x h = ap (checked_of known x) (drop_of_length-le text h
 
 abbrev pub Within : Place → Type 0
 Within (Digits t) = t ≤ 4000000000
+Within (Whole t) = t ≤ 4000000000
 Within p = Unit {0}
 
 end_within : (b : ℕ) → Within (must_end b)
@@ -52,7 +53,7 @@ digit_small b h = let u = ltb-true b 58 ((and-eq-true_iff (ltb 47 b) (ltb b 58))
 first_within : (b : ℕ) → Within (first_digit b)
 unfolding first_digit
 first_within b =
-    pick_all Within (eqb b 48) _ _ tt
+    pick_all Within (eqb b 48) _ _ (omega arith)
     (pick_known Within (digit b) _ _ (λ e. let s = digit_small b e in omega arith) tt)
 
 next_within : (t b : ℕ) → Within (next_digit t b)
@@ -67,7 +68,7 @@ unfolding coded
 place_within LineStart timed b known = begun_within b timed
 place_within Hash timed b known = first_within b
 place_within (Digits t) timed b known = next_within t b
-place_within Zero timed b known = end_within b
+place_within (Whole t) timed b known = end_within b
 place_within (Level v) timed b known = pick_all Within known _ _ tt tt
 place_within (Code v c) timed b known = end_within b
 place_within Outside timed b known = tt

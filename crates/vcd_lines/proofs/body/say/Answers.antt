@@ -12,9 +12,9 @@ pub returns-in-Digits : goal.returns-in-Digits
 unfolding said_of
 returns-in-Digits c = rw c.in-Digits.is (search steps)
 
-pub returns-in-Zero : goal.returns-in-Zero
+pub returns-in-Whole : goal.returns-in-Whole
 unfolding said_of
-returns-in-Zero c = rw c.in-Zero.is (search steps)
+returns-in-Whole c = rw c.in-Whole.is (search steps)
 
 pub returns-in-Code : goal.returns-in-Code
 unfolding said_of
@@ -22,4 +22,4 @@ returns-in-Code c = rw c.in-Code.is (search steps)
 
 pub returns-in_default : goal.returns-in_default
 unfolding said_of pick
-returns-in_default c = grind (arith, c.in_default.not-Digits, c.in_default.not-Zero, c.in_default.not-Code)
+returns-in_default c = grind (arith, c.in_default.not-Digits, c.in_default.not-Whole, c.in_default.not-Code)
