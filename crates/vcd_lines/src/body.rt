@@ -85,6 +85,7 @@ fn first_digit(byte: u8) -> Place
 }
 
 // "times up to 4,000,000,000 ns": a time that is more already takes no digit, so that twenty of them stay in 32 bits.
+// Kept: its own digits, in 32 bits, as the time that it is handed: `text::number_after` is of 64.
 fn next_digit(time: u32, byte: u8) -> Place
     ensures { result ≡ next_digit time byte }
 {
