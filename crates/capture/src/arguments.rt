@@ -21,6 +21,7 @@ fn spell(word: &[u8]) -> Option<u64>
     number
 }
 
+// Kept: tests and casts and no TryFrom, for the clause's `asked_of` has the three tests in one.
 fn ask(mr1: u64, acr7: u64, code: u64) -> Option<Asked>
     ensures { result ≡ asked_of mr1 acr7 code }
 {

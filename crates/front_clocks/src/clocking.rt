@@ -12,6 +12,7 @@ use timer_state::{Counted, Timer, mode_of};
 const IP2: u8 = 2;
 
 // The levels before the event, and whether it is a tick; those after it stand in the front.
+// Kept: the levels before beside whether it is a tick, for the clause's `counted_of` takes both.
 fn count(front: Front, before: u8, tick: bool) -> Counted
     ensures { result ≡ counted_of front before tick }
 {

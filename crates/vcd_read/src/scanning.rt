@@ -16,6 +16,7 @@ pub struct Header {
 }
 
 // What is known of a text.
+// Kept: the fields of `Header` with the times, for the clause `within` of `scan` is of its own `body`.
 #[derive(Clone, Copy)]
 pub struct Scanned {
     pub code_a: u8,

@@ -77,6 +77,7 @@ fn put_values(none: bool, before: u16, values: u16, page: &mut Page<'_>)
 }
 
 // "all values at time 0, then only times with changes": what is written at a tick's time.
+// Kept: three parameters of a wave, for docs/ list it so.
 pub fn put_changes(tick: u32, before: u16, values: u16, page: &mut Page<'_>)
     requires { (page.old.at + 55 < 2 ^ 64) × (before < 2 ^ 11) × (values < 2 ^ 11) }
     ensures { Writes (changes_text tick before values) page.old page.new }
