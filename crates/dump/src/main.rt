@@ -22,7 +22,7 @@ const ROOM: usize = 3000003;
 // Room for the most text that is dumped.
 const SPACE: usize = 2097152;
 
-// Kept: `replay` has it too. A public routine has a clause here, and none can say what is printed.
+// Kept: `replay` has it too. A library's public routine has a clause, and none can say what is printed.
 fn print_error(errors: &impl Print, line: u64) {
     let mut space = [0u8; 32];
     let length = write_error(line, &mut space);
@@ -30,7 +30,7 @@ fn print_error(errors: &impl Print, line: u64) {
 }
 
 // The list of events, three bytes each, filled from the front of the room for it.
-// Kept: a count beside the room, three bytes an event, for `dump` takes the list so.
+// Kept: bytes, three an event, and a count: `vcd_dump::dump` takes the list as bytes, and no heap holds a Vec.
 #[derive(Drop)]
 struct Events<'a> {
     room: &'a mut [u8],

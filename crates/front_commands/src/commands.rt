@@ -49,7 +49,7 @@ fn transmitter_effect(action: Action) -> Input
     }
 }
 
-// Kept: two bits as a number here and below, for each of its two commands is looked at where it is told.
+// Kept: bits 3-2 here, 1-0 below, as numbers: each value is asked about once, beside the words that name it.
 // "then 3-2 (01 enable, 10 disable transmitter)"
 fn transmitter_enabling(bits: u8) -> Input
     ensures { result ≡ transmitter_enabling bits }

@@ -20,7 +20,7 @@ fn read_mode(side: Side) -> SideHanded
 }
 
 // A channel's registers 0 to 3: but for the mode registers and the receive buffer a read does nothing.
-// Kept: a number, the rest by 4 of `read_register`'s, which docs/ list and which takes those above 15 too.
+// Kept: a number from 0 to 3, the remainder by 4 of the register that `read_register`, listed in docs/, takes.
 fn read_side(side: Side, register: u8) -> SideHanded
     ensures { result ≡ side_read side register }
 {

@@ -21,7 +21,7 @@ fn command(side: Side, byte: u8) -> SideHanded
 }
 
 // A channel's registers 0 to 3.
-// Kept: a number, the rest by 4 of `write_register`'s, which docs/ list and which takes those above 15 too.
+// Kept: a number from 0 to 3, the remainder by 4 of the register that `write_register`, listed in docs/, takes.
 fn write_side(side: Side, register: u8, byte: u8) -> SideHanded
     ensures { result ≡ side_written side register byte }
 {

@@ -26,7 +26,7 @@ fn print_answer(rt: &impl Print, answer: Answer) -> Device {
     answer.state
 }
 
-// Kept: `dump` has it too. A public routine has a clause here, and none can say what is printed.
+// Kept: `dump` has it too. A library's public routine has a clause, and none can say what is printed.
 fn print_error(rt: &impl Print, line: u64) {
     let mut space = [0u8; 32];
     let length = write_error(line, &mut space);

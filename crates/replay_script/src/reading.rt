@@ -13,7 +13,7 @@ pub struct Reading {
     // whether the first word begins with #
     pub comment: bool,
     // how many words have begun; 4 stands for four and more
-    // Kept: a count and a name as numbers, for `take` and `tell`, which docs/ list, take every one.
+    // Kept: a count and a name as numbers, for `take` and `tell`, which docs/ list, take every number.
     pub words: u8,
     // the bytes of the first word after a 1, in base 256; LONG where there are more than five
     pub name: u64,

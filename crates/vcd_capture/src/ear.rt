@@ -15,7 +15,7 @@ use text::Page;
 use vcd_lines::{Said, say, start, take};
 
 // The whole part: "Tick n samples the level at order 6's time", so that these are the ticks before a time.
-// Kept: a bound in each routine: a type with it would be made of each time that is read, and `u64::from` has it there.
+// Kept: a bound in each routine: a type with it must be made of each time read, where now `u64::from` suffices.
 fn ticks_before(time: u64) -> u64
     requires { time < 2 ^ 33 }
     ensures { result ≡ ticks_before time }

@@ -84,7 +84,7 @@ pub fn wires_in<'a>(text: &'a [u8]) -> Wires<'a>
 pub fn after<'a>(mut wires: Wires<'a>) -> &'a [u8]
     ensures { result.now ≡ beyond wires.entry }
 {
-    // Kept: a `while`, for what the iterator has left over is the answer, and a `for` would have taken it.
+    // Kept: a `while`, for what the iterator has left over is the answer, and a `for` would go over a copy of it.
     while wires.next().is_some() {}
     wires.rest
 }
