@@ -6,7 +6,7 @@ use chip_device::fresh;
 use events::Event;
 use input_bytes::InputBytes;
 use records::EventRecord;
-use replay_script::{Line, Place, first_place, next_line, next_place, tell};
+use replay_script::{Line, Place, first_place, is_silent, next_line, next_place, tell};
 use replay_text::write_error;
 use std::io::Read;
 use text::put;
@@ -33,14 +33,13 @@ fn print_error(errors: &impl Print, line: u64) {
 // Kept: bytes, three an event, and a count: `vcd_dump::dump` takes the list as bytes, and no heap holds a Vec.
 #[derive(Drop)]
 struct Events<'a> {
-    room: &'a mut [u8],
+    room: &'a mut [u8; ROOM],
     count: usize,
 }
 
 impl<'a> Events<'a> {
-    fn push(&mut self, event: Event) {
+    fn push(&mut self, record: EventRecord) {
         if self.count < TOO_MANY {
-            let record = EventRecord::from(event);
             let at = 3 * self.count;
             put(record.kind, at, self.room);
             put(record.reg, at + 1, self.room);
@@ -51,11 +50,12 @@ impl<'a> Events<'a> {
 
     // `tick COUNT` is COUNT events.
     fn push_ticks(&mut self, times: u64) {
+        let tick = EventRecord::from(Event::Tick);
         for _ in 0..times {
             if self.count >= TOO_MANY {
                 return;
             }
-            self.push(Event::Tick);
+            self.push(tick);
         }
     }
 
@@ -66,31 +66,33 @@ impl<'a> Events<'a> {
 }
 
 // Kept: `replay` has the like, which does another thing with a line: shared, it would say nothing in its clause.
-fn end_line(errors: &impl Print, place: Place, events: &mut Events<'_>) -> Place {
+fn end_line(errors: &impl Print, place: Place, events: &mut Events<'_>) {
     match tell(place.reading) {
         Line::Skipped => {}
         Line::Wrong => print_error(errors, place.line),
         Line::Ticks(times) => events.push_ticks(times.0),
-        Line::One(event) => events.push(event),
-    }
-    next_line(place)
-}
-
-fn take_byte(errors: &impl Print, place: Place, byte: u8, events: &mut Events<'_>) -> Place {
-    match byte {
-        b'\n' => end_line(errors, place, events),
-        _ => next_place(place, byte),
+        Line::One(event) => events.push(EventRecord::from(event)),
     }
 }
 
-// A last line with no line end counts, unless it is empty.
+// A last line with no line end counts, unless it is empty. A copy of a place is handed on, and only where its line says
+// something: else the place is lent on every byte, and kept in memory for it.
 fn read_events(errors: &impl Print, input: impl Read + Drop, events: &mut Events<'_>) {
     let mut place = first_place();
     for byte in InputBytes::new(input) {
-        place = take_byte(errors, place, byte, events);
+        if byte != b'\n' {
+            place = next_place(place, byte);
+            continue;
+        }
+        if !is_silent(place.reading) {
+            let ended = place;
+            end_line(errors, ended, events);
+        }
+        place = next_line(place);
     }
-    if place.begun {
-        end_line(errors, place, events);
+    let last = place;
+    if last.begun {
+        end_line(errors, last, events);
     }
 }
 

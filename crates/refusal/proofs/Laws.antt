@@ -1,13 +1,16 @@
--- The numbers of the rows, written out: what `number_of` is of each, and that none is 0. Assumes nothing.
+-- The numbers of the rows, written out: what `number_of` is of each, that none is 0, and that an answer's number tells the answer.
+-- Assumes nothing.
 use Prim.Native.Nat.{ℕ}
-use mathlib.Core.Path.{◌≡◌, refl}
+use mathlib.Core.Path.{◌≡◌, refl, sym, ◌∙◌, ap}
 use mathlib.Core.Bool.{false}
 use mathlib.Core.List.{List, [], ◌∷◌, map}
 use native.Mathlib.Omega.{arith}
 use lib.Dec.{eqb}
+use lib.ListN.{get_or}
+use Rattle.std.specs.Prelude.{Option, Some, None}
 use Rattle.refusal.specs.declared.refusal.Refusal.{Refusal}
 use Rattle.refusal.specs.declared.refusal.Refusal.TheVariants.{StateUnsound, RegisterAbove15, ReadForbidden, CommandForbidden, SettingNotModelled, AcknowledgeUnasserted, NewStateUnsound, SpaceShort, OverLimit, TextOutside, TimeNotLater}
-use Rattle.refusal.specs.Refusal.{number_of}
+use Rattle.refusal.specs.Refusal.{number_of, answer_number}
 
 -- the rows in the order of the table
 abbrev pub rows : List Refusal
@@ -49,3 +52,30 @@ other_rows SpaceShort h = refl
 other_rows OverLimit h = refl
 other_rows TextOutside h = refl
 other_rows TimeNotLater h = refl
+
+-- what an answer's number says: the table from its first row on, read backwards
+numbered_so : ℕ → Option Refusal
+numbered_so n =
+    get_or
+    (None ∷ Some StateUnsound ∷ Some RegisterAbove15 ∷ Some ReadForbidden ∷ Some CommandForbidden ∷ Some SettingNotModelled
+    ∷ Some AcknowledgeUnasserted ∷ Some NewStateUnsound ∷ Some SpaceShort ∷ Some OverLimit ∷ Some TextOutside ∷ Some TimeNotLater ∷ [])
+    n None
+
+said_back : (x : Option Refusal) → numbered_so (answer_number x) ≡ x
+unfolding numbered_so
+said_back None = refl
+said_back (Some StateUnsound) = refl
+said_back (Some RegisterAbove15) = refl
+said_back (Some ReadForbidden) = refl
+said_back (Some CommandForbidden) = refl
+said_back (Some SettingNotModelled) = refl
+said_back (Some AcknowledgeUnasserted) = refl
+said_back (Some NewStateUnsound) = refl
+said_back (Some SpaceShort) = refl
+said_back (Some OverLimit) = refl
+said_back (Some TextOutside) = refl
+said_back (Some TimeNotLater) = refl
+
+-- So a routine whose clause gives its answer's number gives its answer: two that fit the same words are equal.
+pub one_refusal : (x y : Option Refusal) → answer_number x ≡ answer_number y → x ≡ y
+one_refusal x y h = sym (said_back x) ∙ ap numbered_so h ∙ said_back y

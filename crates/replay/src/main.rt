@@ -8,15 +8,8 @@ use chip_step::{Answer, step};
 use chip_ticks::tick_times;
 use input_bytes::InputBytes;
 use records::seen_of;
-use replay_script::{Line, Place, first_place, next_line, next_place, tell};
+use replay_script::{Line, Place, first_place, is_silent, next_line, next_place, tell};
 use replay_text::{write_error, write_seen};
-
-// The device so far, and where in the script we are.
-#[derive(Clone, Copy)]
-struct Run {
-    device: Device,
-    place: Place,
-}
 
 fn print_answer(rt: &impl Print, answer: Answer) -> Device {
     let seen = seen_of(answer.number, answer.byte, answer.fresh, answer.lines);
@@ -47,35 +40,28 @@ fn act(rt: &impl Print, device: Device, said: Line, line: u64) -> Device {
 }
 
 // Kept: `dump` has the like, which does another thing with a line: shared, it would say nothing in its clause.
-fn end_line(rt: &impl Print, run: Run) -> Run {
-    let place = run.place;
-    let said = tell(place.reading);
-    Run {
-        device: act(rt, run.device, said, place.line),
-        place: next_line(place),
-    }
+fn end_line(rt: &impl Print, device: Device, place: Place) -> Device {
+    act(rt, device, tell(place.reading), place.line)
 }
 
-fn take_byte(rt: &impl Print, run: Run, byte: u8) -> Run {
-    match byte {
-        b'\n' => end_line(rt, run),
-        _ => Run {
-            device: run.device,
-            place: next_place(run.place, byte),
-        },
-    }
-}
-
-// A last line with no line end counts, unless it is empty.
+// A last line with no line end counts, unless it is empty. A copy of a place is handed on, and only where its line says
+// something: else the place is lent on every byte, and kept in memory for it.
 fn main(rt: HostRuntime) {
-    let mut run = Run {
-        device: fresh(),
-        place: first_place(),
-    };
+    let mut device = fresh();
+    let mut place = first_place();
     for byte in InputBytes::new(rt.stdin()) {
-        run = take_byte(&rt, run, byte);
+        if byte != b'\n' {
+            place = next_place(place, byte);
+            continue;
+        }
+        if !is_silent(place.reading) {
+            let ended = place;
+            device = end_line(&rt, device, ended);
+        }
+        place = next_line(place);
     }
-    if run.place.begun {
-        end_line(&rt, run);
+    let last = place;
+    if last.begun {
+        end_line(&rt, device, last);
     }
 }

@@ -1,7 +1,7 @@
 -- A line that is read byte by byte says what its words mean: what is read is a summary of its words, and what is told by the summary is what the
 -- words mean, since a name's number is that name's alone and a capped number is its value. Assumes nothing.
 use Prim.Native.Nat.{ℕ}
-use mathlib.Core.Path.{◌≡◌, refl, ap, ◌∙◌}
+use mathlib.Core.Path.{◌≡◌, refl, sym, ap, ◌∙◌}
 use mathlib.Core.Bool.{Bool, true, false, ◌&&◌, and-false, and-true}
 use mathlib.Core.List.{List, [], ◌∷◌}
 use native.Mathlib.Omega.{arith}
@@ -9,11 +9,13 @@ use lib.Dec.{leb}
 use borrow.Author.Tests.{leb-false, lt-leb}
 use Rattle.std.specs.Prelude.{Some, None}
 use Rattle.format.specs.Pick.{pick}
+use Rattle.format.proofs.Laws.Pick.{pick_yes}
 use Rattle.events.specs.declared.events.Event.TheVariants.{Read, Write, Pins}
 use Rattle.replay_script.specs.declared.lines.Line.{Line}
 use Rattle.replay_script.specs.declared.lines.Line.TheVariants.{Skipped, Wrong, Ticks, One}
-use Rattle.replay_script.specs.Script.{pieces_of, full_of, same_of, hash_of, all_digits, value_of, up_to, tick_text, read_text, pins_text, write_text, said, meant_of}
-use Rattle.replay_script.specs.Lines.{told_alone, told_with_byte, told_with_one, byte_of, told_with_bytes, told_with_two, told_of}
+use Rattle.replay_script.specs.Script.{pieces_of, full_of, same_of, hash_of, all_digits, value_of, up_to, tick_text, read_text, pins_text, write_text, said, meant_of, line_of}
+use Rattle.replay_script.specs.Lines.{told_alone, told_with_byte, told_with_one, byte_of, told_with_bytes, told_with_two, silent, told_of}
+use Rattle.replay_script.specs.Reading.{started, taken_all}
 use Rattle.replay_script.specs.Agrees.{AreBytes, Agrees}
 use Rattle.replay_laws.proofs.Laws.Names.{name_from, named_reset, named_read, named_write, named_ack, named_pins, named_tick}
 use Rattle.text.specs.Numbers.{number_from}
@@ -92,3 +94,8 @@ told_words (a ∷ n ∷ b ∷ c ∷ ws) h = refl
 
 pub reads : Agrees
 reads line h = read_words line ∙ told_words (full_of (pieces_of line)) (words_bytes line h)
+
+-- A line that `is_silent` tells a program to pass over says nothing: by the same words it is skipped.
+pub passed_over : (line : List ℕ) → AreBytes line → silent (taken_all started line) ≡ true → line_of line ≡ Skipped
+unfolding told_of
+passed_over line h s = sym (reads line h) ∙ pick_yes _ _ _ s

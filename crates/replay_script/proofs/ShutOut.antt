@@ -4,10 +4,12 @@ use mathlib.Core.Path.{◌≡◌}
 use mathlib.Core.Bool.{◌||◌, false≢true}
 use native.Mathlib.Omega.{arith}
 use lib.Dec.{eqb, ltb}
+use mathlib.Core.List.{[], ◌∷◌}
 use Rattle.std.proofs.Common.{Some}
 use Rattle.format.specs.Pick.{pick}
 use Rattle.events.specs.declared.events.Event.TheVariants.{Write, Acknowledge}
 use Rattle.replay_script.specs.declared.lines.Line.TheVariants.{Ticks, One}
+use Rattle.text.specs.Numbers.{value_after, number_after, number_from}
 use Rattle.replay_script.specs.Bytes.{blank_of}
 use Rattle.replay_script.specs.Reading.{words_after}
 use Rattle.replay_script.specs.Lines.{told_alone, told_with_one, byte_of, told_with_bytes, told_with_two}
@@ -33,6 +35,11 @@ no_capital_ack h = let z : ◌≡◌ {A = ℕ} 0 1 = cc in omega arith
 no_count_above_most : Ticks (record { 0 = 4000000001 }) ≡ told_with_one 0x1_74_69_63_6b (Some 4000000001) → ⊥
 unfolding told_with_one pick
 no_count_above_most h = let z : ◌≡◌ {A = ℕ} 0 1 = cc in omega arith
+
+-- the same as the reader hands its digits on, whatever count is made of them
+no_digits_above_most : (n : ℕ) → Ticks (record { 0 = n }) ≡ told_with_one 0x1_74_69_63_6b (number_from (Some 0) (52 ∷ 48 ∷ 48 ∷ 48 ∷ 48 ∷ 48 ∷ 48 ∷ 48 ∷ 48 ∷ 49 ∷ [])) → ⊥
+unfolding told_with_one number_from number_after value_after pick
+no_digits_above_most n h = let z : ◌≡◌ {A = ℕ} 0 1 = cc in omega arith
 
 -- `write 12 256`, whatever is made of the 256
 no_byte256_written : (byte : ℕ) → One (Write 12 byte) ≡ told_with_two 0x1_77_72_69_74_65 (Some 12) (Some 256) → ⊥

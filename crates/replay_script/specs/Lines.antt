@@ -1,5 +1,5 @@
 -- What a line says, by what is known of it. Assumes nothing.
-use Rattle.std.specs.Prelude.{ℕ, ◌||◌, Option, Some, None, eqb, leb}
+use Rattle.std.specs.Prelude.{ℕ, Bool, ◌||◌, Option, Some, None, eqb, leb}
 use Rattle.format.specs.Pick.{pick}
 use Rattle.events.specs.declared.events.Event.TheVariants.{ChipReset, Read, Write, Acknowledge, Pins}
 use Rattle.replay_script.specs.declared.lines.Line.{Line}
@@ -39,6 +39,10 @@ told_with_bytes name (Some n) (Some b) = pick (eqb name 0x1_77_72_69_74_65) (One
 
 abbrev pub told_with_two : ℕ → Option ℕ → Option ℕ → Line
 told_with_two name n b = told_with_bytes name (byte_of n) (byte_of b)
+
+-- a blank line or a comment
+abbrev pub silent : Reading → Bool
+silent r = eqb r.words 0 || r.comment
 
 unfoldable pub told_of : Reading → Line
 told_of r =

@@ -7,6 +7,6 @@ mod lines;
 mod place;
 mod reading;
 
-pub use lines::{Line, tell};
+pub use lines::{Line, is_silent, tell};
 pub use place::{Place, first_place, next_line, next_place};
 pub use reading::{Reading, start, take};

@@ -1,6 +1,6 @@
 // What a line of a script says.
 ghost use Rattle.std.specs.Prelude.{◌≡◌};
-ghost use Rattle.replay_script.specs.Lines.{told_alone, told_with_byte, told_with_one, byte_of, told_with_two, told_of};
+ghost use Rattle.replay_script.specs.Lines.{told_alone, told_with_byte, told_with_one, byte_of, told_with_two, silent, told_of};
 
 use crate::reading::Reading;
 use events::Event;
@@ -95,11 +95,18 @@ fn tell_with_two(name: u64, first: Option<u64>, second: Option<u64>) -> Line
     }
 }
 
+// "Blank lines and lines that begin `#`" say nothing.
+pub fn is_silent(reading: Reading) -> bool
+    ensures { result ≡ silent reading }
+{
+    (reading.words == 0) | reading.comment
+}
+
 // What a line says of which all bytes are read.
 pub fn tell(reading: Reading) -> Line
     ensures { result ≡ told_of reading }
 {
-    if (reading.words == 0) | reading.comment {
+    if is_silent(reading) {
         return Line::Skipped;
     }
     if reading.words == 1 {

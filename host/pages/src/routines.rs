@@ -16,7 +16,7 @@ pub struct Routine {
     pub text: String,
 }
 
-/// The names that a crate exports, from its lib.rt.
+/// The names that a crate exports, from its lib.rt: those that it passes on, and those that it declares itself.
 pub fn exported(lib: &str) -> BTreeSet<String> {
     let items = lib.split("\npub use ").skip(1);
     let names = items.filter_map(|rest| rest.split(';').next()?.rsplit("::").next());
@@ -24,8 +24,19 @@ pub fn exported(lib: &str) -> BTreeSet<String> {
         .flat_map(|names| names.split(['{', '}', ','].as_slice()))
         .map(str::trim)
         .filter(|name| !name.is_empty())
+        .chain(lib.lines().filter_map(declared))
         .map(str::to_string)
         .collect()
+}
+
+/// The name of what a line declares as public.
+fn declared(line: &str) -> Option<&str> {
+    let rest = line.strip_prefix("pub ")?;
+    let (kind, rest) = rest.split_once(' ')?;
+    let name = rest
+        .split(|c: char| !c.is_alphanumeric() && c != '_')
+        .next()?;
+    matches!(kind, "fn" | "struct" | "enum" | "const").then_some(name)
 }
 
 /// The functions of a file, each from its first line to the line `}` that ends it; a method of a type's own `impl` is
@@ -83,7 +94,11 @@ fn name_of(line: &str) -> Option<String> {
 /// What stands between the braces after each `ensures`, on one line, with the label between.
 pub fn ensures(function: &str) -> Vec<(String, String)> {
     let mut found = Vec::new();
-    let left = if function.starts_with(' ') { "    " } else { "" };
+    let left = if function.starts_with(' ') {
+        "    "
+    } else {
+        ""
+    };
     let head = function
         .split(&format!("\n{left}{{\n"))
         .next()
@@ -194,6 +209,11 @@ mod tests {
         assert_eq!(
             exported(lib).into_iter().collect::<Vec<_>>(),
             ["Type", "one", "two"]
+        );
+        let lib = "use a::b;\n\npub struct Input<R> {\n    pub input: R,\n}\n\npub fn three() -> u8\n{\n}\n";
+        assert_eq!(
+            exported(lib).into_iter().collect::<Vec<_>>(),
+            ["Input", "three"]
         );
     }
 }

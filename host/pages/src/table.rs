@@ -17,16 +17,20 @@ in *italics* changes the routine, and the checker refuses it. A routine in brack
 
 const WIDTH: usize = 200;
 
-/// Whether an edit is one of this routine's: it changes the routine's text, or a table that the routine reads.
+/// Whether an edit is one of this routine's: it changes the routine's text, or a table that the routine reads, be it an
+/// enum whose numbers a method answers.
 fn is_of(edit: &Edit, routine: &Routine) -> bool {
-    let here =
-        |old: &String| routine.text.contains(old) || is_in_table_of(&edit.file, old, routine);
+    let source = fs::read_to_string(&edit.file).unwrap_or_default();
+    let here = |old: &String| {
+        routine.text.contains(old)
+            || is_in_table_of(&source, old, routine)
+            || is_in_enum_of(&source, old, routine)
+    };
     edit.file == routine.file && edit.olds.iter().any(here)
 }
 
 /// The edit's text stands first in a `static` of the file, and the routine reads that table.
-fn is_in_table_of(file: &str, old: &str, routine: &Routine) -> bool {
-    let text = fs::read_to_string(file).unwrap_or_default();
+fn is_in_table_of(text: &str, old: &str, routine: &Routine) -> bool {
     let before = match text.find(old) {
         Some(place) => &text[..place],
         None => return false,
@@ -37,6 +41,19 @@ fn is_in_table_of(file: &str, old: &str, routine: &Routine) -> bool {
     };
     let name = table.split(':').next().unwrap_or("");
     !name.is_empty() && routine.text.contains(name)
+}
+
+/// The edit's text stands in the `enum` that the routine is a method of, and the routine answers its number.
+fn is_in_enum_of(text: &str, old: &str, routine: &Routine) -> bool {
+    let Some((of_type, _)) = routine.name.split_once("::") else {
+        return false;
+    };
+    let variants = text
+        .split(&format!("pub enum {of_type} {{\n"))
+        .nth(1)
+        .and_then(|rest| rest.split("\n}").next());
+    routine.text.contains("self as u")
+        && variants.is_some_and(|variants| variants.contains(old.trim()))
 }
 
 /// One line a cell of each column, as many as the longest has.
