@@ -95,7 +95,7 @@ fn tell_with_two(name: u64, first: Option<u64>, second: Option<u64>) -> Line
     }
 }
 
-// "Blank lines and lines that begin `#`" say nothing.
+// A blank line says nothing, and a line that begins with # does not.
 pub fn is_silent(reading: Reading) -> bool
     ensures { result ≡ silent reading }
 {
