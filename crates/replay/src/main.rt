@@ -44,8 +44,8 @@ fn end_line(rt: &impl Print, device: Device, place: Place) -> Device {
     act(rt, device, tell(place.reading), place.line)
 }
 
-// A last line with no line end counts, unless it is empty. A copy of a place is handed on, and only where its line says
-// something: else the place is lent on every byte, and kept in memory for it.
+// A last line with no line end counts, unless it is empty. What is handed on is a copy of the place, and only where the line
+// says something: handed on itself, the place would have to be written to memory on every byte.
 fn main(rt: HostRuntime) {
     let mut device = fresh();
     let mut place = first_place();

@@ -1,7 +1,7 @@
 -- Wrong answers, each shut out by a definition: a routine that gave it would not meet its contract. Assumes nothing.
 use Prim.Native.Nat.{ℕ, ◌+◌}
-use mathlib.Core.Path.{◌≡◌}
-use mathlib.Core.Bool.{◌||◌, false≢true}
+use mathlib.Core.Path.{◌≡◌, sym}
+use mathlib.Core.Bool.{true, false, ◌||◌, false≢true}
 use native.Mathlib.Omega.{arith}
 use lib.Dec.{eqb, ltb}
 use mathlib.Core.List.{[], ◌∷◌}
@@ -12,7 +12,8 @@ use Rattle.replay_script.specs.declared.lines.Line.TheVariants.{Ticks, One}
 use Rattle.text.specs.Numbers.{value_after, number_after, number_from}
 use Rattle.replay_script.specs.Bytes.{blank_of}
 use Rattle.replay_script.specs.Reading.{words_after}
-use Rattle.replay_script.specs.Lines.{told_alone, told_with_one, byte_of, told_with_bytes, told_with_two}
+use Rattle.replay_script.specs.declared.reading.Reading.{Reading}
+use Rattle.replay_script.specs.Lines.{silent, told_alone, told_with_one, byte_of, told_with_bytes, told_with_two}
 use Rattle.replay_script.specs.Place.{line_after}
 
 -- ---- a line, byte by byte ----
@@ -25,6 +26,14 @@ unfolding words_after pick
 no_four_words_three h = omega (arith, h 3)
 
 -- ---- what it says ----
+
+-- every line is passed over: such a program does nothing
+no_every_line_silent : ((r : Reading) → true ≡ silent r) → ⊥
+no_every_line_silent h = false≢true (sym (h (record { inside = true; comment = false; words = 1; name = 1; first = Some 0; second = Some 0 })))
+
+-- blank lines alone are
+no_comment_told : ((r : Reading) → eqb r.words 0 ≡ silent r) → ⊥
+no_comment_told h = false≢true (h (record { inside = true; comment = true; words = 1; name = 1; first = Some 0; second = Some 0 }))
 
 -- `Ack`
 no_capital_ack : One Acknowledge ≡ told_alone 0x1_41_63_6b → ⊥

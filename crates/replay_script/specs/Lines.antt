@@ -46,7 +46,7 @@ silent r = eqb r.words 0 || r.comment
 
 unfoldable pub told_of : Reading → Line
 told_of r =
-    pick (eqb r.words 0 || r.comment) Skipped
+    pick (silent r) Skipped
     (pick (eqb r.words 1) (told_alone r.name)
     (pick (eqb r.words 2) (told_with_one r.name r.first)
     (pick (eqb r.words 3) (told_with_two r.name r.first r.second) Wrong)))

@@ -94,11 +94,7 @@ fn name_of(line: &str) -> Option<String> {
 /// What stands between the braces after each `ensures`, on one line, with the label between.
 pub fn ensures(function: &str) -> Vec<(String, String)> {
     let mut found = Vec::new();
-    let left = if function.starts_with(' ') {
-        "    "
-    } else {
-        ""
-    };
+    let left = if function.starts_with(' ') { "    " } else { "" };
     let head = function
         .split(&format!("\n{left}{{\n"))
         .next()

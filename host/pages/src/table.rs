@@ -150,6 +150,24 @@ mod tests {
     }
 
     #[test]
+    fn an_enum_is_the_table_of_the_method_that_answers_its_number() {
+        let routine = |name: &str, text: &str| Routine {
+            crate_name: "c".to_string(),
+            name: name.to_string(),
+            exported: true,
+            ensures: Vec::new(),
+            file: "f".to_string(),
+            text: text.to_string(),
+        };
+        let source = "pub enum Row {\n    First = 1,\n    Last = 2,\n}\n\nconst OTHER: u8 = 3,\n";
+        let number = routine("Row::number", "pub fn number(self) -> u8 {\n    self as u8\n}\n");
+        assert!(is_in_enum_of(source, "Last = 2,", &number));
+        assert!(!is_in_enum_of(source, "u8 = 3,", &number));
+        assert!(!is_in_enum_of(source, "Last = 2,", &routine("number", "self as u8")));
+        assert!(!is_in_enum_of(source, "Last = 2,", &routine("Row::name", "match self {}")));
+    }
+
+    #[test]
     fn rows_are_as_many_as_the_longest_column() {
         let one = |text: &str| vec![text.to_string()];
         assert_eq!(rows("c", "r", &one("x"), &[]), "| c | r | x |  |\n");
